@@ -1,0 +1,5 @@
+use Rattle.abi.proofs.Flags.{flag-set}
+use Rattle.abi.proofs.entry.GrantEntry.is_reading.Needs as need
+
+pub returns : need.returns
+returns c = flag-set (c .args .self .flags) 3
