@@ -3,16 +3,18 @@ ghost use mathlib.Core.Path.{_≡_};
 ghost use Rattle.layout.specs.Message.{Decoded, Encoded};
 ghost use Rattle.abi.specs.Entry.{grant-entry, permits, read-only, reading, writing};
 
-// The bits of flags: a type in the two low ones, then three flags.
+// The type, in the two low bits of flags, and the one that permits access.
 const GTF_TYPE_MASK: u16 = 3;
-
 const GTF_PERMIT_ACCESS: u16 = 1;
 
-const GTF_READONLY: u16 = 4;
+/// The flag of a frame that is lent for reading only.
+pub const GTF_READONLY: u16 = 4;
 
-const GTF_READING: u16 = 8;
+/// The flag of an entry that is mapped.
+pub const GTF_READING: u16 = 8;
 
-const GTF_WRITING: u16 = 16;
+/// The flag of an entry that is mapped for writing.
+pub const GTF_WRITING: u16 = 16;
 
 /// By this entry its owner lends `frame` to the domain `domid`.
 #[derive(Clone, Copy)]

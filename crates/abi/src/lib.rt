@@ -5,6 +5,9 @@ mod index;
 mod page;
 mod status;
 
+pub use entry::GTF_READING;
+pub use entry::GTF_READONLY;
+pub use entry::GTF_WRITING;
 pub use entry::GrantEntry;
 pub use examples::Examples;
 pub use examples::worked_examples;

@@ -1,0 +1,4 @@
+pub mod Access
+pub mod Fault
+pub mod Memory
+pub mod Owners
