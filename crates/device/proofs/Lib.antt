@@ -1,0 +1,4 @@
+pub mod Rows
+pub mod Handed
+pub mod InTurn
+pub mod Served

@@ -1,0 +1,3 @@
+pub mod Example
+pub mod Fit
+pub mod State

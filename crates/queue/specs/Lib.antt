@@ -1,0 +1,3 @@
+pub mod Fault
+pub mod Line
+pub mod Order
