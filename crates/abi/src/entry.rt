@@ -5,6 +5,7 @@ ghost use Rattle.abi.specs.Entry.{grant-entry, permits, read-only, reading, wr
 
 // The type, in the two low bits of flags, and the one that permits access.
 const GTF_TYPE_MASK: u16 = 3;
+
 const GTF_PERMIT_ACCESS: u16 = 1;
 
 /// The flag of a frame that is lent for reading only.

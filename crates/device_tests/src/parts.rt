@@ -9,7 +9,12 @@ use disk::Disk;
 use disk::DiskDevice;
 use std::test::*;
 
-const NONE: Order = Order { ticket: 0, direction: Direction::Inward, place: 0, length: 0 };
+const NONE: Order = Order {
+    ticket: 0,
+    direction: Direction::Inward,
+    place: 0,
+    length: 0,
+};
 
 // A disk of two sectors whose bytes are 1 up to byte 511 and 2 from byte 512 on.
 fn fill_sectors(memory: &mut [u8]) {
@@ -26,11 +31,37 @@ fn filled_in_turn() -> Result<(), Fail> {
     fill_sectors(&mut sectors);
     let mut slots = [NONE; 4];
     let mut disk = Disk::new(&mut sectors, &mut slots);
-    check(disk.accept(Order { ticket: 3, direction: Direction::Inward, place: 0, length: 1024 }).is_ok())?;
+    check(
+        disk.accept(Order {
+                ticket: 3,
+                direction: Direction::Inward,
+                place: 0,
+                length: 1024,
+            })
+            .is_ok(),
+    )?;
     let mut memory = [9u8; 600];
-    let parts = [Part { start: 5, length: 3 }, Part { start: 10, length: 510 }];
+    let parts = [
+        Part {
+            start: 5,
+            length: 3,
+        },
+        Part {
+            start: 10,
+            length: 510,
+        },
+    ];
     check(fill_parts(&mut disk, 3, 0, &mut memory, &parts).is_ok())?;
-    let places: [(usize, u8); 8] = [(4, 9), (5, 1), (7, 1), (8, 9), (9, 9), (10, 1), (518, 1), (519, 2)];
+    let places: [(usize, u8); 8] = [
+        (4, 9),
+        (5, 1),
+        (7, 1),
+        (8, 9),
+        (9, 9),
+        (10, 1),
+        (518, 1),
+        (519, 2),
+    ];
     for (place, byte) in places {
         check_eq(memory.get(place).copied(), Some(byte)).note(place)?;
     }
@@ -44,9 +75,30 @@ fn fault_in_the_middle() -> Result<(), Fail> {
     fill_sectors(&mut sectors);
     let mut slots = [NONE; 4];
     let mut disk = Disk::new(&mut sectors, &mut slots);
-    check(disk.accept(Order { ticket: 3, direction: Direction::Inward, place: 1, length: 512 }).is_ok())?;
+    check(
+        disk.accept(Order {
+                ticket: 3,
+                direction: Direction::Inward,
+                place: 1,
+                length: 512,
+            })
+            .is_ok(),
+    )?;
     let mut memory = [9u8; 600];
-    let parts = [Part { start: 0, length: 2 }, Part { start: 2, length: 511 }, Part { start: 4, length: 1 }];
+    let parts = [
+        Part {
+            start: 0,
+            length: 2,
+        },
+        Part {
+            start: 2,
+            length: 511,
+        },
+        Part {
+            start: 4,
+            length: 1,
+        },
+    ];
     match fill_parts(&mut disk, 3, 0, &mut memory, &parts) {
         Ok(()) => return Err(Fail::new("the second part was filled")),
         Err(fault) => check_eq(fault.number(), -6)?,
@@ -63,15 +115,40 @@ fn drained_in_turn() -> Result<(), Fail> {
     let mut sectors = [0u8; 512];
     let mut slots = [NONE; 4];
     let mut disk = Disk::new(&mut sectors, &mut slots);
-    check(disk.accept(Order { ticket: 0, direction: Direction::Outward, place: 0, length: 512 }).is_ok())?;
+    check(
+        disk.accept(Order {
+                ticket: 0,
+                direction: Direction::Outward,
+                place: 0,
+                length: 512,
+            })
+            .is_ok(),
+    )?;
     let memory = [10u8, 11, 12, 13];
-    let parts = [Part { start: 2, length: 2 }, Part { start: 3, length: 2 }];
+    let parts = [
+        Part {
+            start: 2,
+            length: 2,
+        },
+        Part {
+            start: 3,
+            length: 2,
+        },
+    ];
     match drain_parts(&mut disk, 0, 0, &memory, &parts) {
         Ok(()) => return Err(Fail::new("a part past the memory was drained")),
         Err(fault) => check_eq(fault.number(), -6)?,
     }
     check_eq(disk.done(0).is_ok(), true)?;
-    check(disk.accept(Order { ticket: 0, direction: Direction::Inward, place: 0, length: 512 }).is_ok())?;
+    check(
+        disk.accept(Order {
+                ticket: 0,
+                direction: Direction::Inward,
+                place: 0,
+                length: 512,
+            })
+            .is_ok(),
+    )?;
     let mut back = [9u8; 4];
     check(disk.fill(0, 0, &mut back).is_ok())?;
     check_eq(back, [12, 13, 0, 0])

@@ -12,7 +12,12 @@ fn order(ticket: u8, direction: Direction) -> Order {
         Direction::Inward => 4096,
         Direction::Outward => 4,
     };
-    Order { ticket, direction, place: 0, length }
+    Order {
+        ticket,
+        direction,
+        place: 0,
+        length,
+    }
 }
 
 // An inward order and an outward one wait in turn. Nothing waits at first, so the outward order is ready, though it came

@@ -17,9 +17,15 @@ pub impl fmt::Display for Failure as FailureDisplay {
     fn fmt<W: fmt::Write>(&self, f: &mut fmt::Formatter<W>) -> fmt::Result {
         match self {
             Failure::NoCommand => write!(f, "no such command, or a wrong number of words"),
-            Failure::NoDevice => write!(f, "there is no device yet: disk SECTORS or wire comes first"),
+            Failure::NoDevice => write!(
+                f,
+                "there is no device yet: disk SECTORS or wire comes first"
+            ),
             Failure::Line(expected) => write!(f, "{expected}"),
-            Failure::Arguments => write!(f, "expected no arguments, or --help; the script is read from standard input"),
+            Failure::Arguments => write!(
+                f,
+                "expected no arguments, or --help; the script is read from standard input"
+            ),
             Failure::System(error) => write!(f, "{error}"),
         }
     }

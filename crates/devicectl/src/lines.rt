@@ -113,8 +113,14 @@ fn three(heap: Global, name: &str, a: &str, b: &str) -> Result<Line, Failure> {
 
 fn four(heap: Global, name: &str, a: &str, b: &str, c: &str) -> Result<Line, Failure> {
     match name {
-        "fits" => Ok(Line::Act(Command::Fits(direction(a)?, place(b)?, number(c)?), Vec::new(heap))),
-        "fill" => Ok(Line::Act(Command::Fill(byte(a)?, number(b)?), zeros(heap, number(c)?)?)),
+        "fits" => Ok(Line::Act(
+            Command::Fits(direction(a)?, place(b)?, number(c)?),
+            Vec::new(heap),
+        )),
+        "fill" => Ok(Line::Act(
+            Command::Fill(byte(a)?, number(b)?),
+            zeros(heap, number(c)?)?,
+        )),
         "drain" => Ok(Line::Act(Command::Drain(byte(a)?, number(b)?), bytes(heap, c)?)),
         _ => Err(Failure::NoCommand),
     }
@@ -123,7 +129,12 @@ fn four(heap: Global, name: &str, a: &str, b: &str, c: &str) -> Result<Line, Fai
 fn five(heap: Global, name: &str, a: &str, b: &str, c: &str, d: &str) -> Result<Line, Failure> {
     match name {
         "accept" => {
-            let order = Order { ticket: byte(a)?, direction: direction(b)?, place: place(c)?, length: number(d)? };
+            let order = Order {
+                ticket: byte(a)?,
+                direction: direction(b)?,
+                place: place(c)?,
+                length: number(d)?,
+            };
             Ok(Line::Act(Command::Accept(order), Vec::new(heap)))
         }
         _ => Err(Failure::NoCommand),

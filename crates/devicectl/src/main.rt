@@ -104,7 +104,11 @@ fn print_answer(rt: &LibcRuntime, answer: Answer, bytes: &[u8]) -> Result<(), Fa
 }
 
 // Drives the device until another is asked for, or the script ends.
-fn drive<D: Device>(rt: &LibcRuntime, script: &mut Script, device: &mut D) -> Result<Start, Failure> {
+fn drive<D: Device>(
+    rt: &LibcRuntime,
+    script: &mut Script,
+    device: &mut D,
+) -> Result<Start, Failure> {
     for _ in 0..u64::MAX {
         if !read(rt, script)? {
             return Ok(Start::End);
@@ -161,7 +165,12 @@ fn refused(rt: &LibcRuntime, script: &mut Script, fault: DeviceFault) -> Result<
 
 fn with_disk(rt: &LibcRuntime, script: &mut Script, sectors: u32) -> Result<Start, Failure> {
     let mut memory = vec![in rt.alloc(); 0u8; sectors.min(TOO_MANY) as usize * SECTOR]?;
-    let mut slots = [Order { ticket: 0, direction: Direction::Inward, place: 0, length: 0 }; 4];
+    let mut slots = [Order {
+        ticket: 0,
+        direction: Direction::Inward,
+        place: 0,
+        length: 0,
+    }; 4];
     if let Err(fault) = disk::check(memory.as_slice(), &slots) {
         return refused(rt, script, fault);
     }
@@ -204,7 +213,10 @@ fn wants_usage(rt: &LibcRuntime) -> Result<bool, Failure> {
 }
 
 fn main(rt: LibcRuntime) -> Result<(), Failed> {
-    let mut script = Script { text: String::new(rt.alloc()), number: 0 };
+    let mut script = Script {
+        text: String::new(rt.alloc()),
+        number: 0,
+    };
     let done = match wants_usage(&rt) {
         Ok(true) => match println!(rt, "{USAGE}") {
             Ok(()) => Ok(()),

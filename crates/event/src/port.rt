@@ -16,7 +16,9 @@ impl Port {
         ensures { λ r. ⌜ Cases r (32 ≤ number) (λ p. p .number ≡ number) ⌝ }
     {
         if number < 32 {
-            Some(Port { number: number as u8 })
+            Some(Port {
+                number: number as u8,
+            })
         } else {
             None
         }

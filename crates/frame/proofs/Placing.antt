@@ -31,8 +31,8 @@ placed-elsewhere a bs m h j n w =
     let p : putMid a (length bs) m bs ≡ placed a bs m = put-is-placed a (length bs) m bs bs refl refl in
     let le : a ≤ length m = omega arith in
     ap (bytes-at j n) (sym p) ∙ elim w [
-      inl before ↦ from-front j n (putMid a (length bs) m bs) ∙ ap (drop j) (take-putMid-below a (length bs) m bs (j + n) before le) ∙ sym (from-front j n m)
-    | inr behind ↦ ap (take n) (drop-putMid a (length bs) m bs j behind le refl)
+      | inl before ↦ from-front j n (putMid a (length bs) m bs) ∙ ap (drop j) (take-putMid-below a (length bs) m bs (j + n) before le) ∙ sym (from-front j n m)
+      | inr behind ↦ ap (take n) (drop-putMid a (length bs) m bs j behind le refl)
     ]
 
 -- bytes that are placed in a frame leave every other frame as it was
@@ -41,8 +41,8 @@ pub placed-in-frame : (f offset : ℕ) (bs m : List ℕ) → offset + length bs 
 placed-in-frame f offset bs m h l g other =
     placed-elsewhere (4096 * f + offset) bs m (omega arith) (4096 * g) 4096
     (elim (cases-order g f) [
-      inl same ↦ absurd (other same)
-    | inr o ↦ elim o [ inl less ↦ inl (omega arith) | inr more ↦ inr (omega arith) ]
+      | inl same ↦ absurd (other same)
+      | inr o ↦ elim o [ inl less ↦ inl (omega arith) | inr more ↦ inr (omega arith) ]
     ])
 
 -- a part that is granted lies inside its frame, and the frame inside the memory

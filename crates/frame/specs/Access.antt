@@ -13,6 +13,6 @@ use Rattle.frame.specs.declared.fault.FrameFault.the-variants.{NoFrame, OutOfF
 abbrev pub access-rules : Frames → Bool → ℕ → ℕ → ℕ → ℕ → List (Rule FrameFault)
 access-rules F held d f offset n =
     (not (ltb f (F .count)), NoFrame)
-  ∷ (ltb 4096 (offset + n), OutOfFrame)
-  ∷ (not (owns F d f || held), NoAccess)
-  ∷ []
+    ∷ (ltb 4096 (offset + n), OutOfFrame)
+    ∷ (not (owns F d f || held), NoAccess)
+    ∷ []

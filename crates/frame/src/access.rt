@@ -10,7 +10,14 @@ use crate::owners::Frames;
 
 impl Frames {
     /// Whether the domain may reach `size` bytes at `offset` in the frame; `held` says whether it has a mapping that does.
-    pub fn may_access(&self, held: bool, domain: Domain, frame: u32, offset: u32, size: usize) -> Result<(), FrameFault>
+    pub fn may_access(
+        &self,
+        held: bool,
+        domain: Domain,
+        frame: u32,
+        offset: u32,
+        size: usize,
+    ) -> Result<(), FrameFault>
         ensures { λ r. ⌜ r ≡ refuse-first (access-rules (now (self .entry)) held (domain .id) frame offset size) (Ok tt) ⌝ }
     {
         if frame >= self.count {

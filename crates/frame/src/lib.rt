@@ -5,8 +5,8 @@ mod fault;
 mod memory;
 mod owners;
 
-pub use domain::Domain;
 pub use domain::DOMAINS;
+pub use domain::Domain;
 pub use fault::FrameFault;
 pub use memory::FRAME_SIZE;
 pub use memory::read_part;

@@ -24,7 +24,12 @@ fn has_part(memory: &[u8], frame: u32, offset: u32, size: usize) -> Result<(), F
 }
 
 /// Copies a part of a frame into a buffer.
-pub fn read_part(memory: &[u8], frame: u32, offset: u32, buffer: &mut [u8]) -> Result<(), FrameFault>
+pub fn read_part(
+    memory: &[u8],
+    frame: u32,
+    offset: u32,
+    buffer: &mut [u8],
+) -> Result<(), FrameFault>
     ensures { λ r. ⌜ Read-part (now (memory .entry)) frame offset (now (buffer .entry)) r (now (buffer .exit)) ⌝ }
 {
     has_part(memory, frame, offset, buffer.len())?;
@@ -35,7 +40,12 @@ pub fn read_part(memory: &[u8], frame: u32, offset: u32, buffer: &mut [u8]) -> R
 }
 
 /// Copies bytes into a part of a frame.
-pub fn write_part(memory: &mut [u8], frame: u32, offset: u32, bytes: &[u8]) -> Result<(), FrameFault>
+pub fn write_part(
+    memory: &mut [u8],
+    frame: u32,
+    offset: u32,
+    bytes: &[u8],
+) -> Result<(), FrameFault>
     ensures { λ r. ⌜ Written (now (memory .entry)) frame offset (now (bytes .entry)) r (now (memory .exit)) ⌝ }
 {
     has_part(memory, frame, offset, bytes.len())?;

@@ -22,7 +22,10 @@ impl Frames {
     pub fn new(count: u32) -> Frames
         ensures { λ r. ⌜ r ≡ new-frames count ⌝ }
     {
-        Frames { count, owners: [None; FRAMES] }
+        Frames {
+            count,
+            owners: [None; FRAMES],
+        }
     }
 
     /// The owner of a frame, if it has one.

@@ -19,8 +19,8 @@ entry-rules reference = (ltb 31 reference, NoReference) ∷ []
 abbrev pub end-rules : Grants → ℕ → ℕ → List (Rule GrantFault)
 end-rules G d reference =
     (ltb 31 reference, NoReference)
-  ∷ (reading (entry-at G (place d reference) .flags) || writing (entry-at G (place d reference) .flags), InUse)
-  ∷ []
+    ∷ (reading (entry-at G (place d reference) .flags) || writing (entry-at G (place d reference) .flags), InUse)
+    ∷ []
 
 -- the tables with another entry at i
 abbrev pub with-entry : ℕ → GrantEntry → Grants → Grants

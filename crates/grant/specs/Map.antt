@@ -33,17 +33,17 @@ mode-of n = cond (eqb n 1) Write Read
 -- in this order: when the domain d's map is refused, and why
 abbrev pub map-rules : Frames → Grants → ℕ → ℕ → ℕ → ℕ → List (Rule GrantFault)
 map-rules F G d owner reference mode =
-  let e : GrantEntry = entry-at G (place owner reference) in
-  let r : Record = record-at G (place owner reference) in
+    let e : GrantEntry = entry-at G (place owner reference) in
+    let r : Record = record-at G (place owner reference) in
     (ltb 1 mode, BadMode)
-  ∷ (ltb 7 owner || eqb owner d, BadOwner)
-  ∷ (not (isSome (lowest (G .handles) d)), NoHandle)
-  ∷ (ltb 31 reference, NoReference)
-  ∷ (not (names e d), NotGranted)
-  ∷ (not (owns F owner (e .frame)), NotOwners)
-  ∷ (eqb mode 1 && read-only (e .flags), ReadOnly)
-  ∷ (pinned r && (not (eqb (r .mapper) d) || not (eqb (r .frame) (e .frame))), PinnedOtherwise)
-  ∷ []
+    ∷ (ltb 7 owner || eqb owner d, BadOwner)
+    ∷ (not (isSome (lowest (G .handles) d)), NoHandle)
+    ∷ (ltb 31 reference, NoReference)
+    ∷ (not (names e d), NotGranted)
+    ∷ (not (owns F owner (e .frame)), NotOwners)
+    ∷ (eqb mode 1 && read-only (e .flags), ReadOnly)
+    ∷ (pinned r && (not (eqb (r .mapper) d) || not (eqb (r .frame) (e .frame))), PinnedOtherwise)
+    ∷ []
 
 -- the mapping that an accepted map makes: the entry is read here, once
 abbrev pub mapping-of : Grants → ℕ → ℕ → Mode → Mapping
@@ -56,8 +56,8 @@ pub record Grant : Type 0 where
 
 abbrev pub map-verdict : Frames → Grants → ℕ → ℕ → ℕ → ℕ → Result Grant GrantFault
 map-verdict F G d owner reference mode =
-  refuse-first (map-rules F G d owner reference mode)
-  (Ok (record { handle = valueOr (lowest (G .handles) d) 0; mapping = mapping-of G owner reference (mode-of mode) }))
+    refuse-first (map-rules F G d owner reference mode)
+    (Ok (record { handle = valueOr (lowest (G .handles) d) 0; mapping = mapping-of G owner reference (mode-of mode) }))
 
 -- what the code's value says
 abbrev pub grant-of : Granted → Grant

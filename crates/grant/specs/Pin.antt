@@ -49,22 +49,22 @@ recorded frame mapper r = record { readers = r .readers; writers = r .writers; f
 -- the mapping p of the domain d begins, under this handle
 abbrev pub pin : ℕ → ℕ → Mapping → Grants → Grants
 pin d handle p G =
-  let i : ℕ = place (p .owner) (p .reference) in
-  record
-  { entries = set (G .entries) i (with-flags (flagged (p .mode) (entry-at G i .flags)) (entry-at G i))
-  ; records = set (G .records) i (added (p .mode) (recorded (p .frame) d (record-at G i)))
-  ; handles = set (G .handles) (key d handle) (Some p)
-  }
+    let i : ℕ = place (p .owner) (p .reference) in
+    record {
+      entries = set (G .entries) i (with-flags (flagged (p .mode) (entry-at G i .flags)) (entry-at G i));
+      records = set (G .records) i (added (p .mode) (recorded (p .frame) d (record-at G i)));
+      handles = set (G .handles) (key d handle) (Some p);
+    }
 
 -- the tables with one use less of the entry at i
 abbrev pub unused : ℕ → Mode → Grants → Grants
 unused i mode G =
-  let r : Record = removed mode (record-at G i) in
-  record
-  { entries = set (G .entries) i (with-flags (unflagged r (entry-at G i .flags)) (entry-at G i))
-  ; records = set (G .records) i r
-  ; handles = G .handles
-  }
+    let r : Record = removed mode (record-at G i) in
+    record {
+      entries = set (G .entries) i (with-flags (unflagged r (entry-at G i .flags)) (entry-at G i));
+      records = set (G .records) i r;
+      handles = G .handles;
+    }
 
 abbrev pub freed : ℕ → Grants → Grants
 freed k G = record { entries = G .entries; records = G .records; handles = set (G .handles) k None }
@@ -72,8 +72,8 @@ freed k G = record { entries = G .entries; records = G .records; handles = set (
 -- the mapping p of the domain d, under this handle, ends
 abbrev pub unpin : ℕ → ℕ → Mapping → Grants → Grants
 unpin d handle p G =
-  let i : ℕ = place (p .owner) (p .reference) in
-  freed (key d handle) (cond (ltb i 256) (unused i (p .mode) G) G)
+    let i : ℕ = place (p .owner) (p .reference) in
+    freed (key d handle) (cond (ltb i 256) (unused i (p .mode) G) G)
 
 -- the handle of the domain d is freed, if it is in use
 abbrev pub released : ℕ → ℕ → Grants → Grants

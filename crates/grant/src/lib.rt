@@ -1,8 +1,8 @@
 // Grant tables: what each domain lends, the host's own record of it, and who has it mapped.
 mod entries;
 mod fault;
-mod maps;
 mod mapping;
+mod maps;
 mod pinning;
 mod reference;
 mod tables;

@@ -106,7 +106,14 @@ impl Grants {
     }
 
     /// Whether the domain may map what the owner's entry grants; the entry is read once.
-    pub fn may_map(&self, frames: &Frames, domain: Domain, owner: u32, reference: u32, mode: u32) -> Result<Granted, GrantFault>
+    pub fn may_map(
+        &self,
+        frames: &Frames,
+        domain: Domain,
+        owner: u32,
+        reference: u32,
+        mode: u32,
+    ) -> Result<Granted, GrantFault>
         ensures { λ r. ⌜ granting grant-of r ≡ map-verdict (now (frames .entry)) (now (self .entry)) (domain .id) owner reference mode ⌝ }
     {
         if mode > 1 {
@@ -137,8 +144,16 @@ impl Grants {
             return Err(GrantFault::PinnedOtherwise);
         }
         let mode = if mode == 1 { Mode::Write } else { Mode::Read };
-        let mapping = Mapping { owner: owner as u8, reference: reference as u8, frame: entry.frame, mode };
-        Ok(Granted { handle: handle as u8, mapping })
+        let mapping = Mapping {
+            owner: owner as u8,
+            reference: reference as u8,
+            frame: entry.frame,
+            mode,
+        };
+        Ok(Granted {
+            handle: handle as u8,
+            mapping,
+        })
     }
 
     /// The mapping under a handle of the domain, if it is in use.

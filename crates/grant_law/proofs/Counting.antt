@@ -70,30 +70,30 @@ module _ (rs : List Record) (hs : List (Option Mapping)) (size : length hs ≡ 5
       omega (arith, u, c (p .mode) (place-of p) b, getD-le-sumBy (one (place-of p) (p .mode)) hs k None lt)
 
   one-changed : (k : ℕ) (rs′ : List Record) (h : Option Mapping) → k < length hs
-    → ((m : Mode) (i : ℕ) → i < 256 → count-of m (getD rs′ i fresh) + one i m (at hs k) ≡ count-of m (getD rs i fresh) + one i m h)
-    → Counts rs′ (set hs k h)
+      → ((m : Mode) (i : ℕ) → i < 256 → count-of m (getD rs′ i fresh) + one i m (at hs k) ≡ count-of m (getD rs i fresh) + one i m h)
+      → Counts rs′ (set hs k h)
   one-changed k rs′ h lt e m i b = omega (arith, e m i b, c m i b, sumBy-set (one i m) hs k h None lt)
 
   pub counted-pin : (k : ℕ) (p : Mapping) (d : ℕ) → k < length hs → at hs k ≡ None → length rs ≡ 256 → place-of p < 256
-    → Counts (set rs (place-of p) (added (p .mode) (recorded (p .frame) d (getD rs (place-of p) fresh)))) (set hs k (Some p))
+      → Counts (set rs (place-of p) (added (p .mode) (recorded (p .frame) d (getD rs (place-of p) fresh)))) (set hs k (Some p))
   counted-pin k p d lt e n b = one-changed k _ (Some p) lt λ m i h.
-    let r = getD rs (place-of p) fresh in
-    let l : place-of p < length rs = omega arith in
-    elim (cases-eq i (place-of p))
-    [ inl q ↦ rw (q, e, getD-set-same) (omega (arith, added-count (p .mode) m (p .frame) d r (counted-bound (p .mode) (place-of p) b), one-here p m))
-    | inr n ↦ rw (e, getD-set-other) (omega (arith, one-there p m i (λ q. n (sym q))))
-    ]
+      let r = getD rs (place-of p) fresh in
+      let l : place-of p < length rs = omega arith in
+      elim (cases-eq i (place-of p)) [
+        | inl q ↦ rw (q, e, getD-set-same) (omega (arith, added-count (p .mode) m (p .frame) d r (counted-bound (p .mode) (place-of p) b), one-here p m))
+        | inr n ↦ rw (e, getD-set-other) (omega (arith, one-there p m i (λ q. n (sym q))))
+      ]
 
   pub counted-unpin : (k : ℕ) (p : Mapping) → k < length hs → at hs k ≡ Some p → length rs ≡ 256 → place-of p < 256
-    → Counts (set rs (place-of p) (removed (p .mode) (getD rs (place-of p) fresh))) (set hs k None)
+      → Counts (set rs (place-of p) (removed (p .mode) (getD rs (place-of p) fresh))) (set hs k None)
   counted-unpin k p lt e n b = one-changed k _ None lt λ m i h.
-    let r = getD rs (place-of p) fresh in
-    let u = counted-use k p lt e b in
-    let l : place-of p < length rs = omega arith in
-    elim (cases-eq i (place-of p))
-    [ inl q ↦ rw (q, e, getD-set-same) (omega (arith, removed-count (p .mode) m r u (counted-bound (p .mode) (place-of p) b), one-here p m))
-    | inr n ↦ rw (e, getD-set-other) (omega (arith, one-there p m i (λ q. n (sym q))))
-    ]
+      let r = getD rs (place-of p) fresh in
+      let u = counted-use k p lt e b in
+      let l : place-of p < length rs = omega arith in
+      elim (cases-eq i (place-of p)) [
+        | inl q ↦ rw (q, e, getD-set-same) (omega (arith, removed-count (p .mode) m r u (counted-bound (p .mode) (place-of p) b), one-here p m))
+        | inr n ↦ rw (e, getD-set-other) (omega (arith, one-there p m i (λ q. n (sym q))))
+      ]
 
 -- somebody maps through a record with a count
 pub use-pins : (m : Mode) (r : Record) → 0 < count-of m r → pinned r ≡ true

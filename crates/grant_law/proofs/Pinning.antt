@@ -44,7 +44,6 @@ module _ (F : Frames) (G : Grants) (d h : ℕ) (p : Mapping) (s : Sound F G)
     (free : at (G .handles) (key d h) ≡ None)
     (mine : owns F (p .owner) (p .frame) ≡ true)
     (same : pinned (record-at G (place-of p)) ≡ true → (record-at G (place-of p) .mapper ≡ d) × (record-at G (place-of p) .frame ≡ p .frame)) where
-
   place-below : place-of p < 256
   place-below = omega arith
 
@@ -65,8 +64,8 @@ module _ (F : Frames) (G : Grants) (d h : ℕ) (p : Mapping) (s : Sound F G)
   pin-placed k =
       let inside = key-inside in
       elim (cases-eq k (key d h)) [
-        inl e ↦ rw (e, getD-set-same) (and-from _ _ (lt-ltb (p .owner) 8 owner) (lt-ltb (p .reference) 32 reference))
-      | inr n ↦ rw getD-set-other (s .all-placed k)
+        | inl e ↦ rw (e, getD-set-same) (and-from _ _ (lt-ltb (p .owner) 8 owner) (lt-ltb (p .reference) 32 reference))
+        | inr n ↦ rw getD-set-other (s .all-placed k)
       ]
 
   pin-told : (d′ h′ : ℕ) (q : Mapping) → d′ < 8 → h′ < 64 → at (pin d h p G .handles) (key d′ h′) ≡ Some q
@@ -74,38 +73,39 @@ module _ (F : Frames) (G : Grants) (d h : ℕ) (p : Mapping) (s : Sound F G)
   pin-told d′ h′ q b l e =
       let inside = key-inside in
       elim (cases-eq (key d′ h′) (key d h)) [
-        inl i ↦
-          let x : d′ ≡ d = omega arith in
-          let g : Some p ≡ Some q = sym (getD-set-same (G .handles) (key d h) (Some p) None inside) ∙ rw i at e in
-          let z : p ≡ q = cc in
-          let y = at-place (place-of q) (ap place-of (sym z)) in
-          (y .0 ∙ ap (λ (v : Mapping). v .frame) z, y .1 ∙ sym x)
-      | inr n ↦
-          let e′ : at (G .handles) (key d′ h′) ≡ Some q = rw getD-set-other at e in
-          let told = s .told d′ h′ q b l e′ in
-          elim (cases-eq (place-of q) (place-of p)) [
-            inl i ↦
-              let w = placed-place q (rw e′ at (s .all-placed (key d′ h′))) in
-              let size = s .handles-size in
-              let used = counted-use (G .records) (G .handles) size (s .counts) (key d′ h′) q (omega arith) e′ (omega arith) in
-              let pinned-here : pinned (record-at G (place-of p)) ≡ true = subst (λ j. pinned (record-at G j) ≡ true) i (use-pins (q .mode) (record-at G (place-of q)) used) in
-              let as-before = same pinned-here in
-              let y = at-place (place-of q) i in
-              let r : record-at G (place-of p) ≡ record-at G (place-of q) = ap (λ j. record-at G j) (sym i) in
-              ( y .0 ∙ sym (as-before .1) ∙ ap (λ (v : Record). v .frame) r ∙ told .0
-              , y .1 ∙ sym (as-before .0) ∙ ap (λ (v : Record). v .mapper) r ∙ told .1)
-          | inr far ↦ rw getD-set-other told
-          ]
+        | inl i ↦
+            let x : d′ ≡ d = omega arith in
+            let g : Some p ≡ Some q = sym (getD-set-same (G .handles) (key d h) (Some p) None inside) ∙ rw i at e in
+            let z : p ≡ q = cc in
+            let y = at-place (place-of q) (ap place-of (sym z)) in
+            (y .0 ∙ ap (λ (v : Mapping). v .frame) z, y .1 ∙ sym x)
+        | inr n ↦
+            let e′ : at (G .handles) (key d′ h′) ≡ Some q = rw getD-set-other at e in
+            let told = s .told d′ h′ q b l e′ in
+            elim (cases-eq (place-of q) (place-of p)) [
+              | inl i ↦
+                  let w = placed-place q (rw e′ at (s .all-placed (key d′ h′))) in
+                  let size = s .handles-size in
+                  let used = counted-use (G .records) (G .handles) size (s .counts) (key d′ h′) q (omega arith) e′ (omega arith) in
+                  let pinned-here : pinned (record-at G (place-of p)) ≡ true = subst (λ j. pinned (record-at G j) ≡ true) i (use-pins (q .mode) (record-at G (place-of q)) used) in
+                  let as-before = same pinned-here in
+                  let y = at-place (place-of q) i in
+                  let r : record-at G (place-of p) ≡ record-at G (place-of q) = ap (λ j. record-at G j) (sym i) in (
+                    y .0 ∙ sym (as-before .1) ∙ ap (λ (v : Record). v .frame) r ∙ told .0,
+                    y .1 ∙ sym (as-before .0) ∙ ap (λ (v : Record). v .mapper) r ∙ told .1,
+                  )
+              | inr far ↦ rw getD-set-other told
+            ]
       ]
 
   pin-owned : (o n : ℕ) → o < 8 → n < 32 → pinned (record-at (pin d h p G) (place o n)) ≡ true → owns F o (record-at (pin d h p G) (place o n) .frame) ≡ true
   pin-owned o n b l is-pinned =
       elim (cases-eq (place o n) (place-of p)) [
-        inl e ↦
-          let x : o ≡ p .owner = omega arith in
-          let y = at-place (place o n) e .0 in
-          subst (λ v. owns F v (record-at (pin d h p G) (place o n) .frame) ≡ true) (sym x) (subst (λ v. owns F (p .owner) v ≡ true) (sym y) mine)
-      | inr far ↦ rw getD-set-other (s .owned o n b l (rw getD-set-other at is-pinned))
+        | inl e ↦
+            let x : o ≡ p .owner = omega arith in
+            let y = at-place (place o n) e .0 in
+            subst (λ v. owns F v (record-at (pin d h p G) (place o n) .frame) ≡ true) (sym x) (subst (λ v. owns F (p .owner) v ≡ true) (sym y) mine)
+        | inr far ↦ rw getD-set-other (s .owned o n b l (rw getD-set-other at is-pinned))
       ]
 
   pin-pins : (f : ℕ) → pins (pin d h p G .records) f ≡ countBy (of-frame false f) (pin d h p G .handles)
@@ -116,8 +116,15 @@ module _ (F : Frames) (G : Grants) (d h : ℕ) (p : Mapping) (s : Sound F G)
       let heavier = added-weight (p .mode) (p .frame) d f r bound (λ u. same (some-use r u) .1) in
       let old : _≡_ {A = ℕ} (cond (of-frame false f (at (G .handles) (key d h))) 1 0) 0 = ap (λ (x : Option Mapping). cond {A = ℕ} (of-frame false f x) 1 0) free in
       let new : _≡_ {A = ℕ} (cond (of-frame false f (Some p)) 1 0) (cond (eqb (p .frame) f) 1 0) = ap (λ (b : Bool). cond {A = ℕ} b 1 0) (and-true (eqb (p .frame) f)) in
-      omega (arith, sumBy-set (weight f) (G .records) (place-of p) r′ fresh place-inside, heavier, s .frame-pins f,
-          sumBy-set (λ x. cond {A = ℕ} (of-frame false f x) 1 0) (G .handles) (key d h) (Some p) None key-inside, old, new)
+      omega (
+        arith,
+        sumBy-set (weight f) (G .records) (place-of p) r′ fresh place-inside,
+        heavier,
+        s .frame-pins f,
+        sumBy-set (λ x. cond {A = ℕ} (of-frame false f x) 1 0) (G .handles) (key d h) (Some p) None key-inside,
+        old,
+        new,
+      )
 
   pub pinned-sound : Sound F (pin d h p G)
   pinned-sound = record {

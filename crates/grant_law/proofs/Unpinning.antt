@@ -32,7 +32,6 @@ use Rattle.grant_law.proofs.Pinning.{and-true}
 -- the mapping p is in use under the handle h of the domain d
 module _ (F : Frames) (G : Grants) (d h : ℕ) (p : Mapping) (s : Sound F G)
     (domain : d < 8) (handle : h < 64) (here : at (G .handles) (key d h) ≡ Some p) where
-
   within : (p .owner < 8) × (p .reference < 32)
   within = placed-place p (rw here at (s .all-placed (key d h)))
 
@@ -64,11 +63,11 @@ module _ (F : Frames) (G : Grants) (d h : ℕ) (p : Mapping) (s : Sound F G)
   record-after j =
       let inside = place-inside in
       elim (cases-eq j (place-of p)) [
-        inl e ↦
-          let r = record-at G (place-of p) in
-          let told = removed-told (p .mode) r in
-          rw (e, getD-set-same) ((λ _. use-pins (p .mode) r used), told .0, told .1)
-      | inr n ↦ rw getD-set-other ((λ v. v), refl, refl)
+        | inl e ↦
+            let r = record-at G (place-of p) in
+            let told = removed-told (p .mode) r in
+            rw (e, getD-set-same) ((λ _. use-pins (p .mode) r used), told .0, told .1)
+        | inr n ↦ rw getD-set-other ((λ v. v), refl, refl)
       ]
 
   -- every handle in use then was in use before
@@ -76,8 +75,8 @@ module _ (F : Frames) (G : Grants) (d h : ℕ) (p : Mapping) (s : Sound F G)
   handle-after k q e =
       let inside = key-inside in
       elim (cases-eq k (key d h)) [
-        inl i ↦ absurd (let g : None ≡ Some q = sym (getD-set-same (G .handles) (key d h) None None inside) ∙ rw i at e in let z : _≡_ {A = ℕ} 0 1 = cc in omega arith)
-      | inr n ↦ rw getD-set-other at e
+        | inl i ↦ absurd (let g : None ≡ Some q = sym (getD-set-same (G .handles) (key d h) None None inside) ∙ rw i at e in let z : _≡_ {A = ℕ} 0 1 = cc in omega arith)
+        | inr n ↦ rw getD-set-other at e
       ]
 
   after-placed : (k : ℕ) → placed (at (after .handles) k) ≡ true
@@ -92,9 +91,16 @@ module _ (F : Frames) (G : Grants) (d h : ℕ) (p : Mapping) (s : Sound F G)
       let told = s .told d h p domain handle here .0 in
       let frame : _≡_ {A = ℕ} (cond (eqb (r .frame) f) 1 0) (cond (eqb (p .frame) f) 1 0) = ap (λ g. cond {A = ℕ} (eqb g f) 1 0) told in
       let old : _≡_ {A = ℕ} (cond (of-frame false f (at (G .handles) (key d h))) 1 0) (cond (eqb (p .frame) f) 1 0) =
-          ap (λ (x : Option Mapping). cond {A = ℕ} (of-frame false f x) 1 0) here ∙ ap (λ (b : Bool). cond {A = ℕ} b 1 0) (and-true (eqb (p .frame) f)) in
-      omega (arith, sumBy-set (weight f) (G .records) (place-of p) (removed (p .mode) r) fresh place-inside, lighter, s .frame-pins f,
-          sumBy-set (λ x. cond {A = ℕ} (of-frame false f x) 1 0) (G .handles) (key d h) None None key-inside, old, frame)
+      ap (λ (x : Option Mapping). cond {A = ℕ} (of-frame false f x) 1 0) here ∙ ap (λ (b : Bool). cond {A = ℕ} b 1 0) (and-true (eqb (p .frame) f)) in
+      omega (
+        arith,
+        sumBy-set (weight f) (G .records) (place-of p) (removed (p .mode) r) fresh place-inside,
+        lighter,
+        s .frame-pins f,
+        sumBy-set (λ x. cond {A = ℕ} (of-frame false f x) 1 0) (G .handles) (key d h) None None key-inside,
+        old,
+        frame,
+      )
 
   after-sound : Sound F after
   after-sound = record {

@@ -51,14 +51,14 @@ added-weight m g d f r l h =
     let told = added-told m g d r .0 in
     let more = added-uses m g d r l in
     elim (cases-eq g f) [
-      inl e ↦
-        let after = weight-here f r′ (told ∙ e) in
-        let before : weight f r ≡ uses r = elim (cases-eq (uses r) 0) [ inl z ↦ weight-unused f r z ∙ sym z | inr n ↦ weight-here f r (h (omega arith) ∙ e) ] in
-        rw (eq-eqb g f e) (omega arith)
-    | inr n ↦
-        let after = weight-there f r′ (λ e. n (sym told ∙ e)) in
-        let before : weight f r ≡ 0 = elim (cases-eq (uses r) 0) [ inl z ↦ weight-unused f r z | inr s ↦ weight-there f r (λ e. n (sym (h (omega arith)) ∙ e)) ] in
-        rw (ne-eqb g f n) (omega arith)
+      | inl e ↦
+          let after = weight-here f r′ (told ∙ e) in
+          let before : weight f r ≡ uses r = elim (cases-eq (uses r) 0) [ inl z ↦ weight-unused f r z ∙ sym z | inr n ↦ weight-here f r (h (omega arith) ∙ e) ] in
+          rw (eq-eqb g f e) (omega arith)
+      | inr n ↦
+          let after = weight-there f r′ (λ e. n (sym told ∙ e)) in
+          let before : weight f r ≡ 0 = elim (cases-eq (uses r) 0) [ inl z ↦ weight-unused f r z | inr s ↦ weight-there f r (λ e. n (sym (h (omega arith)) ∙ e)) ] in
+          rw (ne-eqb g f n) (omega arith)
     ]
 
 -- one use less weighs one less on its frame
@@ -69,14 +69,14 @@ removed-weight m f r u l =
     let told = removed-told m r .0 in
     let less = removed-uses m r u l in
     elim (cases-eq (r .frame) f) [
-      inl e ↦
-        let after = weight-here f r′ (told ∙ e) in
-        let before = weight-here f r e in
-        let unit : _≡_ {A = ℕ} (cond (eqb (r .frame) f) 1 0) 1 = ap (λ (b : Bool). cond {A = ℕ} b 1 0) (eq-eqb (r .frame) f e) in
-        omega arith
-    | inr n ↦
-        let after = weight-there f r′ (λ e. n (sym told ∙ e)) in
-        let before = weight-there f r n in
-        let unit : _≡_ {A = ℕ} (cond (eqb (r .frame) f) 1 0) 0 = ap (λ (b : Bool). cond {A = ℕ} b 1 0) (ne-eqb (r .frame) f n) in
-        omega arith
+      | inl e ↦
+          let after = weight-here f r′ (told ∙ e) in
+          let before = weight-here f r e in
+          let unit : _≡_ {A = ℕ} (cond (eqb (r .frame) f) 1 0) 1 = ap (λ (b : Bool). cond {A = ℕ} b 1 0) (eq-eqb (r .frame) f e) in
+          omega arith
+      | inr n ↦
+          let after = weight-there f r′ (λ e. n (sym told ∙ e)) in
+          let before = weight-there f r n in
+          let unit : _≡_ {A = ℕ} (cond (eqb (r .frame) f) 1 0) 0 = ap (λ (b : Bool). cond {A = ℕ} b 1 0) (ne-eqb (r .frame) f n) in
+          omega arith
     ]

@@ -5,5 +5,4 @@ ghost use Rattle.grant_law.specs.Sound.{Stays-sound};
 /// begin and end. So no count wraps, and a frame's pins are the handles in use on it.
 pub fn tables_stay_sound()
     ensures { λ _. ⌜ Stays-sound ⌝ }
-{
-}
+{}

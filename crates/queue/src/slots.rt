@@ -5,7 +5,7 @@ ghost use lib.ListN.{length, getD, set};
 ghost use Rattle.queue.specs.Line.{along};
 
 /// The place `step` slots after `head`, round a ring of `size` slots.
-pub fn place(head: usize, step: usize, size: usize) -> usize
+pub(crate) fn place(head: usize, step: usize, size: usize) -> usize
     requires { ⌜ head ≤ size ⌝ ∗ ⌜ step ≤ size ⌝ }
     ensures is { λ r. ⌜ r ≡ along head step size ⌝ }
     ensures below { λ r. ⌜ (step < size → r < size) ⌝ }
@@ -19,7 +19,7 @@ pub fn place(head: usize, step: usize, size: usize) -> usize
 }
 
 /// Copies `item` into the slot `i`.
-pub fn put<T: Copy>(slots: &mut [T], i: usize, item: &T)
+pub(crate) fn put<T: Copy>(slots: &mut [T], i: usize, item: &T)
     requires { ⌜ i < length (now slots) ⌝ }
     ensures { λ _. ⌜ now (slots .exit) ≡ set (now (slots .entry)) i (now (item .entry)) ⌝ }
 {
@@ -27,7 +27,7 @@ pub fn put<T: Copy>(slots: &mut [T], i: usize, item: &T)
 }
 
 /// What stands in the slot `i`.
-pub fn read<T: Copy>(slots: &[T], i: usize) -> T
+pub(crate) fn read<T: Copy>(slots: &[T], i: usize) -> T
     requires { ⌜ i < length (now slots) ⌝ }
     ensures { λ r. ⌜ r ≡ getD (now (slots .entry)) i r ⌝ }
 {
@@ -35,7 +35,7 @@ pub fn read<T: Copy>(slots: &[T], i: usize) -> T
 }
 
 /// Copies what stands in the slot `i` into `item`.
-pub fn read_into<T: Copy>(slots: &[T], i: usize, item: &mut T)
+pub(crate) fn read_into<T: Copy>(slots: &[T], i: usize, item: &mut T)
     requires { ⌜ i < length (now slots) ⌝ }
     ensures { λ _. ⌜ now (item .exit) ≡ getD (now (slots .entry)) i (now (item .exit)) ⌝ }
 {
