@@ -4,7 +4,7 @@ ghost use Rattle.device.specs.Fault.{fault-number};
 use abi::GrantStatus;
 use abi::HouseStatus;
 
-#[derive(Clone, Copy, PartialEq, Eq, Debug)]
+#[derive(Clone, Copy)]
 pub enum DeviceFault {
     /// The order, or the part asked for, does not fit.
     NoFit,

@@ -1,7 +1,7 @@
 // What a device is asked to do.
 
 /// Which way the bytes go.
-#[derive(Clone, Copy, PartialEq, Eq, Debug)]
+#[derive(Clone, Copy, PartialEq, Eq)]
 pub enum Direction {
     /// From the device into memory.
     Inward,
@@ -10,7 +10,7 @@ pub enum Direction {
 }
 
 /// A piece of work that a device takes in hand.
-#[derive(Clone, Copy, PartialEq, Eq, Debug)]
+#[derive(Clone, Copy)]
 pub struct Order {
     /// The name under which the caller speaks of the order.
     pub ticket: u8,

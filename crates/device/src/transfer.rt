@@ -10,7 +10,7 @@ use crate::Device;
 use crate::DeviceFault;
 
 /// A part of a memory.
-#[derive(Clone, Copy, PartialEq, Eq, Debug)]
+#[derive(Clone, Copy)]
 pub struct Part {
     pub start: u32,
     pub length: u32,
