@@ -55,7 +55,7 @@ disk-rules = record {
 pub disk-laws : Laws disk-rules
 disk-laws = record {
   capacity-some = λ m. lit< tt;
-  bytes-length = λ m o k n. length-row (m .sectors) (start o k) n;
+  bytes-length = λ m o k n. length-row (m .sectors) _ n;
   accept-orders = λ m o h. refl;
   accept-ready = λ m o h. refl;
   accept-bytes = λ m o h k n. refl;

@@ -23,4 +23,4 @@ finish-status-requires c κs =
 pub ghost-self : need.ghost-self
 ghost-self c =
     let w = c .args .self .now in
-    (ap all-fit (c .remove .ensures) ∙ fit-others (c .args .ticket) (orders-of (w .hand)) (w .held), tt)
+    (ap all-fit (c .remove .ensures) ∙ fit-others _ (orders-of (w .hand)) (w .held), tt)
