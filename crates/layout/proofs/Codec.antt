@@ -60,7 +60,7 @@ pub written-read : (ps : List Part) (bs : List ℕ) → ((i : ℕ) → getD bs i
 written-read ps bs h = written-read-at 0 ps bs h
 
 -- a message is read from a part of a page as from the page
-number-cut : (w k at n : ℕ) (bs : List ℕ) → k + w ≤ n → number w k (take n (drop at bs)) ≡ number w (at + k) bs
+pub number-cut : (w k at n : ℕ) (bs : List ℕ) → k + w ≤ n → number w k (take n (drop at bs)) ≡ number w (at + k) bs
 number-cut zero k at n bs h = refl
 number-cut (suc w) k at n bs h =
     let here : getD (take n (drop at bs)) k 0 ≡ getD bs (at + k) 0 = getD-take n (drop at bs) k 0 (omega arith) ∙ getD-drop at bs k 0 in
@@ -103,3 +103,11 @@ encodes M m bs e f b = record {
   value = e;
   back = ap (λ x. M .of (read (M .layout) x)) e ∙ ap (M .of) (read-written (M .layout) (M .values m) f) ∙ b;
 }
+
+-- A message in the copy of a part is the message in its place.
+pub in-place : {T : Type 0} (M : Message T) (m : T) (copy bytes : List ℕ) (at n start : ℕ) → size (M .layout) ≤ n → at ≡ start
+    → copy ≡ take n (drop at bytes) → m ≡ M .of (read (M .layout) copy) → m ≡ M .of (read-at start (M .layout) bytes)
+in-place M m copy bytes at n start h s e v =
+    let zero : at + 0 ≡ start = omega arith in
+    v ∙ ap (λ l. M .of (read (M .layout) l)) e ∙ ap (M .of) (read-at-cut (M .layout) 0 at n bytes (omega arith))
+    ∙ ap (λ k. M .of (read-at k (M .layout) bytes)) zero

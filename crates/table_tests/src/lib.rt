@@ -1,7 +1,9 @@
-// Examples of frames, grants and events, worked out by hand.
+// Examples of frames, grants, events and rings, worked out by hand.
 #[cfg(test)]
 mod events;
 #[cfg(test)]
 mod frames;
 #[cfg(test)]
 mod grants;
+#[cfg(test)]
+mod rings;

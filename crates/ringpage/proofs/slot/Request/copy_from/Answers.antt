@@ -13,18 +13,10 @@ use Rattle.ringpage.specs.Slot.{request-at}
 use Rattle.abi.specs.declared.page.Kind.{Kind}
 use Rattle.ringpage.specs.declared.slot.Request.{Request}
 use Rattle.ringpage.specs.declared.slot.Request.the-variants.{OfBlock, OfSend, OfReceive}
-use Rattle.layout.proofs.Codec.{read-at-cut}
+use Rattle.layout.proofs.Codec.{in-place}
 use Rattle.ringpage.proofs.slot.Request.copy_from.Needs as need
 
--- a message in the copy of a slot is the message in the page
-in-place : {T : Type 0} (M : Message T) (m : T) (copy page : List ℕ) (at n start : ℕ) → size (M .layout) ≤ n → at ≡ start
-    → copy ≡ take n (drop at page) → m ≡ M .of (read (M .layout) copy) → m ≡ M .of (read-at start (M .layout) page)
-in-place M m copy page at n start h s e v =
-    let zero : at + 0 ≡ start = omega arith in
-    v ∙ ap (λ l. M .of (read (M .layout) l)) e ∙ ap (M .of) (read-at-cut (M .layout) 0 at n page (omega arith))
-    ∙ ap (λ k. M .of (read-at k (M .layout) page)) zero
-
--- the same of a request of a kind that is known
+-- the request, by a kind that is known
 of-kind : (kind known : Kind) (index : ℕ) (page : List ℕ) (r : Request) → kind ≡ known
     → r ≡ request-at known (slot-start kind index) page → r ≡ request-at kind (slot-start kind index) page
 of-kind kind known index page r e v = subst (λ k. r ≡ request-at k (slot-start kind index) page) (sym e) v

@@ -1,0 +1,4 @@
+pub mod Fault
+pub mod Page
+pub mod Producer
+pub mod Response
