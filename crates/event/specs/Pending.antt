@@ -44,8 +44,8 @@ pub record Only (p b old new : ℕ) : Type 0 where
   pub here : bit new p ≡ b
   pub others : (q : ℕ) → q < 32 → (q ≡ p → ⊥) → bit new q ≡ bit old q
 
--- The port that is picked of a word. Which one it is is nobody's business but this definition's:
--- who picks may rely only on `Picked`.
+-- The port that is picked of a word. Users rely only on `Picked`, not on which port it is, so that another choice
+-- may take its place.
 unfoldable pub pick : ℕ → ℕ
 pick w = trailingZeros 32 w
 
