@@ -1,4 +1,6 @@
 // What Xen's public headers fix for every ring: grant entries, ring pages, free-running indices and numbers.
+#![tactic(auto)]
+
 mod entry;
 mod examples;
 mod index;

@@ -1,4 +1,6 @@
 // What a call of the host answers: what it gives, or why it refuses, and the four parts of either.
+#![tactic(auto)]
+
 mod fault;
 mod parts;
 mod reply;

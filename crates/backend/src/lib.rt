@@ -1,4 +1,6 @@
 // What back ends do with a ring: they take requests off it, map what these name, move bytes, and answer.
+#![tactic(auto)]
+
 mod consumed;
 mod looking;
 mod moving;

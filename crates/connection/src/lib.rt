@@ -1,4 +1,6 @@
 // Connections between guests and back ends, and the jobs that devices have in hand for them.
+#![tactic(auto)]
+
 mod kinds;
 mod rings;
 mod tables;

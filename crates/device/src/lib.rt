@@ -1,5 +1,7 @@
 // What a device is, told apart from any device: its orders, its faults, what it owes, and handing
 // parts of a memory to it.
+#![tactic(auto)]
+
 pub mod fault;
 pub mod meaning;
 pub mod orders;

@@ -1,4 +1,6 @@
 // Examples of the line, the disk, the wire and handing on parts, worked out by hand.
+#![tactic(auto)]
+
 #[cfg(test)]
 mod line;
 #[cfg(test)]

@@ -1,4 +1,6 @@
 // devicectl: drives a disk or a wire by a script on standard input, and prints each line with its answer.
+#![tactic(auto)]
+
 mod act;
 mod failure;
 mod lines;

@@ -1,5 +1,7 @@
 // A disk kept in memory that the caller lends: up to 128 sectors of 512 bytes, and up to four orders
 // in hand, in slots that the caller lends too.
+#![tactic(auto)]
+
 pub mod example;
 pub mod making;
 pub mod sectors;

@@ -1,4 +1,6 @@
 // What a back end does for its device: it serves a connection, and it completes a job.
+#![tactic(auto)]
+
 mod completing;
 mod serving;
 

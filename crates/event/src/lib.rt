@@ -1,4 +1,6 @@
 // Event channels: the ports that are pending in each domain.
+#![tactic(auto)]
+
 mod fault;
 mod pending;
 mod port;

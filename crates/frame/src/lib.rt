@@ -1,4 +1,6 @@
 // Frames: who owns them, who may reach them, and their bytes in the memory that is lent to each call.
+#![tactic(auto)]
+
 mod access;
 mod domain;
 mod fault;

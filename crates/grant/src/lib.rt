@@ -1,4 +1,6 @@
 // Grant tables: what each domain lends, the host's own record of it, and who has it mapped.
+#![tactic(auto)]
+
 mod entries;
 mod fault;
 mod mapping;

@@ -1,4 +1,6 @@
 // What keeps the counts of the grant tables true, whatever guests write into their entries.
+#![tactic(auto)]
+
 ghost use Rattle.grant_law.specs.Examples.{Worked};
 ghost use Rattle.grant_law.specs.Sound.{StaysSound};
 

@@ -1,4 +1,6 @@
 // The host: its fourteen calls, thin over the layers below, each of which takes its step of the law.
+#![tactic(auto)]
+
 mod call;
 mod calls;
 mod devices;

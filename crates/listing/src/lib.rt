@@ -1,4 +1,6 @@
 // A ring page in words, as ringdump prints it.
+#![tactic(auto)]
+
 mod dump;
 mod kinds;
 mod lines;

@@ -1,4 +1,6 @@
 // Messages of the two network rings, as Xen's io/netif.h lays them out.
+#![tactic(auto)]
+
 mod receive;
 mod send;
 

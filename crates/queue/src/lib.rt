@@ -1,4 +1,6 @@
 // A first-in-first-out line over slots that the caller lends.
+#![tactic(auto)]
+
 pub mod fault;
 pub mod line;
 pub mod order;

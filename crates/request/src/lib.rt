@@ -1,4 +1,6 @@
 // Requests of guests: what they ask for, and the checks that they pass before a device is asked.
+#![tactic(auto)]
+
 mod content;
 mod fields;
 mod passing;

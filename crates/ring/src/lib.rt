@@ -1,4 +1,6 @@
 // Rings: the shared page inside the memory, the indices on it, and responses.
+#![tactic(auto)]
+
 mod bytes;
 mod fault;
 mod page;

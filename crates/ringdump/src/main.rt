@@ -1,4 +1,6 @@
 // ringdump KIND FILE: prints the header of a ring page and every request that is not yet answered.
+#![tactic(auto)]
+
 mod arguments;
 mod failure;
 

@@ -1,4 +1,6 @@
 // Lists the pages under data/ by ringdump's own code, since the gate runs a program only once.
+#![tactic(auto)]
+
 use abi::{Kind, PAGE_SIZE};
 use anyhow::anyhow;
 use listing::{DumpFault, dump_page};

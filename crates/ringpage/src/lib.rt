@@ -1,4 +1,6 @@
 // A ring page as a whole: its header, the requests that are outstanding on it, and the request in a slot.
+#![tactic(auto)]
+
 mod header;
 mod requests;
 mod slot;

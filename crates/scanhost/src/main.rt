@@ -1,5 +1,7 @@
 // scanhost: runs a host with a disk in bay 0 and the wire in bay 1 by a script on standard input, and prints each
 // line with its answer.
+#![tactic(auto)]
+
 mod calls;
 mod failure;
 mod input;

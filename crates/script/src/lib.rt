@@ -1,4 +1,6 @@
 // The script language of scanhost: the words of a line as a command, and an answer as text.
+#![tactic(auto)]
+
 mod answers;
 mod command;
 mod error;

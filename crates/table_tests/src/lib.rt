@@ -1,4 +1,6 @@
 // Examples of frames, grants, events, rings, requests and back ends, worked out by hand.
+#![tactic(auto)]
+
 #[cfg(test)]
 mod backends;
 #[cfg(test)]

@@ -1,4 +1,6 @@
 // A loop-back network: a packet that is sent out comes in again, behind those that wait already.
+#![tactic(auto)]
+
 pub mod hand;
 pub mod making;
 pub mod packet;

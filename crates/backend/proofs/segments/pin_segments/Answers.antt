@@ -13,8 +13,8 @@ use Rattle.backend.proofs.segments.pin_segments.Goals as goal
 abbrev none : Span
 none = record { reference = 0; start = 0; length = 0 }
 
-pub pin-segment-requires : goal.pin-segment-requires
-pin-segment-requires c =
+pub pin_segment-requires : goal.pin_segment-requires
+pin_segment-requires c =
     let table = c.args.parts.now.table in
     let eleven : length table ≡ 11 = search rules in
     let size : length c.front-spans.result.now ≡ min c.args.parts.now.count (length table) = ap length c.front-spans.ensures ∙ length-take c.args.parts.now.count table in
@@ -33,10 +33,10 @@ loop-span-preserved c =
     let rest = drop (i + 1) spans in
     let G = c.loop-span.grants in
     let j = c.loop-span.job in
-    let G' = c.pin-segment.new.grants in
-    let j' = c.pin-segment.new.job in
-    let count = count_more F guest s G j c.pin-segment.result G' j' c.pin-segment.ensures c.in-default.is in
-    let more = pin_more F guest s G j c.pin-segment.result G' j' c.pin-segment.ensures rest c.in-default.is in (
+    let G' = c.pin_segment.new.grants in
+    let j' = c.pin_segment.new.job in
+    let count = count_more F guest s G j c.pin_segment.result G' j' c.pin_segment.ensures c.in_default.is in
+    let more = pin_more F guest s G j c.pin_segment.result G' j' c.pin_segment.ensures rest c.in_default.is in (
       count ∙ ap (λ n. n + 1) c.loop-span.invariant.0,
       ap (λ n. pin_all F guest n j' G' rest) count ∙ sym more
           ∙ sym (at_drop_more (pin_all F guest j.count j G) spans i none c.loop-span-test.true) ∙ c.loop-span.invariant.1,
@@ -60,12 +60,12 @@ returns-in-Err c =
     let s = get_or spans i none in
     let G = c.loop-span.grants in
     let j = c.loop-span.job in
-    let G' = c.pin-segment.new.grants in
-    let j' = c.pin-segment.new.job in
+    let G' = c.pin_segment.new.grants in
+    let j' = c.pin_segment.new.job in
     let fault = c.in-Err.fault in
-    let refused = pin-refused F guest s G j c.pin-segment.result G' j' c.pin-segment.ensures (drop (i + 1) spans) fault c.in-Err.is in
+    let refused = pin-refused F guest s G j c.pin_segment.result G' j' c.pin_segment.ensures (drop (i + 1) spans) fault c.in-Err.is in
     let done = at_drop_more (pin_all F guest j.count j G) spans i none c.loop-span-test.true ∙ refused.0 in
-    pinned_by F guest (listed c.args.parts.now) c.args.grants.now c.args.job.now _ _ c.unpin-segments.new.grants j' (sym c.loop-span.invariant.1 ∙ done)
+    pinned_by F guest (listed c.args.parts.now) c.args.grants.now c.args.job.now _ _ c.unpin_segments.new.grants j' (sym c.loop-span.invariant.1 ∙ done)
     (ap (λ (k : Job). Err (miss (OfGrant fault) k.count)) refused.1)
-    (c.unpin-segments.ensures ∙ ap₂ (λ k H. released_all (handles_of k) H) refused.1 refused.2)
+    (c.unpin_segments.ensures ∙ ap₂ (λ k H. released_all (handles_of k) H) refused.1 refused.2)
     refused.1

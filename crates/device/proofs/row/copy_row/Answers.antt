@@ -13,11 +13,11 @@ returns c =
     let count = c.min-count.result in
     let front : List ℕ = between start (start + count) xs in
     let long : length front ≡ count = length-between xs start (start + count) (omega arith) ∙ (omega arith) in
-    let copied = c.copy-front.ensures in
-    let size : length c.copy-front.new.part ≡ length ys = omega arith in
+    let copied = c.copy_front.ensures in
+    let size : length c.copy_front.new.part ≡ length ys = omega arith in
     let cut : (start + count) - start ≡ count = omega arith in
-    c.zero-from.ensures
-    ∙ ap (λ n. take count c.copy-front.new.part ++ replicate (n - count) 0) size
+    c.zero_from.ensures
+    ∙ ap (λ n. take count c.copy_front.new.part ++ replicate (n - count) 0) size
     ∙ ap (λ zs. take count zs ++ replicate (length ys - count) 0) copied
     ∙ ap (λ zs. zs ++ replicate (length ys - count) 0) (take_at front (drop (length front) ys) count long)
     ∙ ap (λ k. take k (drop start xs) ++ replicate (length ys - count) 0) cut

@@ -6,8 +6,8 @@ use Rattle.device.specs.declared.transfer.Part.{Part}
 use Rattle.device.proofs.InTurn.{drain_more, drain_refused}
 use Rattle.device.proofs.transfer.drain_parts.Goals as goal
 
-pub returns-in-err-drain-part : goal.returns-in-err-drain-part
-returns-in-err-drain-part g c =
+pub returns-in_err-drain_part : goal.returns-in_err-drain_part
+returns-in_err-drain_part g c =
     let R = g.D.Device.rules in
     let m = g.D.Device.meaning c.loop-part.device in
     let t = c.args.ticket in
@@ -17,9 +17,9 @@ returns-in-err-drain-part g c =
     let i = c.loop-part.part-index in
     let none : Part = record { start = 0; length = 0 } in
     let here : i < length parts = omega arith in
-    let fault = c.in-err-drain-part.field-0.0 in
+    let fault = c.in_err-drain_part.field-0.0 in
     let exit = err_from_is_err_and c.from-residual.result c.from-residual.ensures.1 in
-    let refused = drain_refused R t at (get_or parts i none) (drop (i + 1) parts) m (g.D.Device.meaning c.drain-part.new.device) xs c.drain-part.result fault c.drain-part.ensures c.in-err-drain-part.was in
+    let refused = drain_refused R t at (get_or parts i none) (drop (i + 1) parts) m (g.D.Device.meaning c.drain_part.new.device) xs c.drain_part.result fault c.drain_part.ensures c.in_err-drain_part.was in
     record {
       answer = exit.1 ∙ ap Err exit.2 ∙ sym (at_drop_more (λ ps. draining_parts R m t at ps xs) parts i none here ∙ refused.0) ∙ c.loop-part.invariant.0;
       after = sym (at_drop_more (λ ps. drained_parts R m t at ps xs) parts i none here ∙ refused.1) ∙ c.loop-part.invariant.1;
@@ -36,7 +36,7 @@ loop-part-preserved g c =
     let i = c.loop-part.part-index in
     let none : Part = record { start = 0; length = 0 } in
     let here : i < length parts = omega arith in
-    let more = drain_more R t at (get_or parts i none) (drop (i + 1) parts) m (g.D.Device.meaning c.drain-part.new.device) xs c.drain-part.result c.drain-part.ensures c.in-ok-drain-part.was in (
+    let more = drain_more R t at (get_or parts i none) (drop (i + 1) parts) m (g.D.Device.meaning c.drain_part.new.device) xs c.drain_part.result c.drain_part.ensures c.in_ok-drain_part.was in (
       sym (at_drop_more (λ ps. draining_parts R m t at ps xs) parts i none here ∙ more.0) ∙ c.loop-part.invariant.0,
       sym (at_drop_more (λ ps. drained_parts R m t at ps xs) parts i none here ∙ more.1) ∙ c.loop-part.invariant.1,
     )

@@ -6,11 +6,11 @@ use Rattle.device.specs.declared.transfer.Part.{Part}
 use Rattle.device.proofs.InTurn.{fill_more, fill_refused}
 use Rattle.device.proofs.transfer.fill_parts.Goals as goal
 
-pub returns-in-err-fill-part : goal.returns-in-err-fill-part
-returns-in-err-fill-part g c =
+pub returns-in_err-fill_part : goal.returns-in_err-fill_part
+returns-in_err-fill_part g c =
     let R = g.D.Device.rules in
     let m = g.D.Device.meaning c.args.device.now in
-    let m₁ = g.D.Device.meaning c.fill-part.new.device in
+    let m₁ = g.D.Device.meaning c.fill_part.new.device in
     let t = c.args.ticket in
     let at = c.loop-part.next in
     let xs = c.loop-part.memory in
@@ -20,10 +20,10 @@ returns-in-err-fill-part g c =
     let p : Part = get_or parts i none in
     let here : i < length parts = omega arith in
     let size : length xs ≡ length c.args.memory.now = omega arith in
-    let fault = c.in-err-fill-part.field-0.0 in
+    let fault = c.in_err-fill_part.field-0.0 in
     let exit = err_from_is_err_and c.from-residual.result c.from-residual.ensures.1 in
-    let call = subst (λ n. Part-filled R n t at p xs c.fill-part.result m₁ c.fill-part.new.memory) c.loop-part.invariant.0 c.fill-part.ensures in
-    let refused = fill_refused R t at p (drop (i + 1) parts) m m₁ xs c.fill-part.new.memory (length c.args.memory.now) c.fill-part.result fault size call c.in-err-fill-part.was in
+    let call = subst (λ n. Part-filled R n t at p xs c.fill_part.result m₁ c.fill_part.new.memory) c.loop-part.invariant.0 c.fill_part.ensures in
+    let refused = fill_refused R t at p (drop (i + 1) parts) m m₁ xs c.fill_part.new.memory (length c.args.memory.now) c.fill_part.result fault size call c.in_err-fill_part.was in
     record {
       answer = exit.1 ∙ ap Err exit.2 ∙ sym (at_drop_more (λ ps. filling_parts R m t at ps (length c.args.memory.now)) parts i none here ∙ refused.0) ∙ c.loop-part.invariant.1;
       after = call.after;
@@ -34,7 +34,7 @@ pub loop-part-preserved : goal.loop-part-preserved
 loop-part-preserved g c =
     let R = g.D.Device.rules in
     let m = g.D.Device.meaning c.args.device.now in
-    let m₁ = g.D.Device.meaning c.fill-part.new.device in
+    let m₁ = g.D.Device.meaning c.fill_part.new.device in
     let t = c.args.ticket in
     let at = c.loop-part.next in
     let xs = c.loop-part.memory in
@@ -44,8 +44,8 @@ loop-part-preserved g c =
     let p : Part = get_or parts i none in
     let here : i < length parts = omega arith in
     let size : length xs ≡ length c.args.memory.now = omega arith in
-    let call = subst (λ n. Part-filled R n t at p xs c.fill-part.result m₁ c.fill-part.new.memory) c.loop-part.invariant.0 c.fill-part.ensures in
-    let more = fill_more R t at p (drop (i + 1) parts) m m₁ xs c.fill-part.new.memory (length c.args.memory.now) c.fill-part.result size call c.in-ok-fill-part.was in (
+    let call = subst (λ n. Part-filled R n t at p xs c.fill_part.result m₁ c.fill_part.new.memory) c.loop-part.invariant.0 c.fill_part.ensures in
+    let more = fill_more R t at p (drop (i + 1) parts) m m₁ xs c.fill_part.new.memory (length c.args.memory.now) c.fill_part.result size call c.in_ok-fill_part.was in (
       call.after,
       sym (at_drop_more (λ ps. filling_parts R m t at ps (length c.args.memory.now)) parts i none here ∙ more.0) ∙ c.loop-part.invariant.1,
       sym (at_drop_more (λ ps. filled_parts R m t at ps xs) parts i none here ∙ more.1) ∙ c.loop-part.invariant.2,

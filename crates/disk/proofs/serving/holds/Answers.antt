@@ -16,7 +16,7 @@ loop-i-preserved c =
       | in-Some+else-order-ticket w ↦
           let o = w.in-Some.order in
           sym (hand_more t i os o (sym c.get.ensures ∙ w.in-Some.is) ∙ ap (λ b. b || in_hand t (drop (i + 1) os)) (ne_eqb o.ticket t w.if-order-ticket.false)) ∙ c.loop-i.invariant
-      | in-default w ↦ absurd (let past = none_past os i (sym c.get.ensures ∙ w.in-default.is) in omega arith)
+      | in-default w ↦ absurd (let past = none_past os i (sym c.get.ensures ∙ w.in_default.is) in omega arith)
     ]
 
 pub returns-then-order-ticket : goal.returns-then-order-ticket

@@ -22,11 +22,11 @@ returns-in-Err g c =
     let q = c.args.request.now in
     let a = asked_by c.args.checked.now in
     let done : Job → MappingDone = λ j. pin_all H.frames k.guest 0 (emptied j) H.grants (listed c.args.checked.now.parts) in
-    let job = c.job-for-job.ensures in
+    let job = c.job_for-job.ensures in
     let fresh = job_for n k.kind a in
     let fault : (done fresh).fault ≡ Some c.in-Err.miss =
-    fault_some (done fresh).fault c.in-Err.miss (sym c.in-Err.is ∙ c.pin-segments.ensures.answer ∙ ap (λ j. if_some (done j).fault (Ok tt) (λ f. Err f)) job) in
-    let grants = c.pin-segments.ensures.grants ∙ ap (λ j. (done j).grants) job in
+    fault_some (done fresh).fault c.in-Err.miss (sym c.in-Err.is ∙ c.pin_segments.ensures.answer ∙ ap (λ j. if_some (done j).fault (Ok tt) (λ f. Err f)) job) in
+    let grants = c.pin_segments.ensures.grants ∙ ap (λ j. (done j).grants) job in
     leaves_by _ _ _ _ _ _
     (ap₂ (λ (o : Option Miss) G. if_some o (handed_over D n k q a (done fresh) H m x) (λ f. answered_now D n k q f (with_grants G H) m x)) fault (sym grants))
-    (answered-leaves D n k q c.in-Err.miss _ _ _ m x _ _ _ c.requires.live c.requires.id c.requires.operation c.answer-now.ensures.answer c.answer-now.ensures.after)
+    (answered-leaves D n k q c.in-Err.miss _ _ _ m x _ _ _ c.requires.live c.requires.id c.requires.operation c.answer_now.ensures.answer c.answer_now.ensures.after)

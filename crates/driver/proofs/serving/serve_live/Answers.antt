@@ -22,7 +22,7 @@ spend-requires g c =
     let busy = is_full g.D.Device.rules (g.D.Device.meaning c.args.device.now) || has_two_jobs C.jobs n in
     let rings = c.consume-token.ensures.rings in
     let token = c.consume-token.ensures.token in
-    let free = ticket_free busy (next_ticket C.jobs n) c.in-Some.ticket (sym c.free-ticket-ticket.ensures ∙ c.in-Some.is) in
+    let free = ticket_free busy (next_ticket C.jobs n) c.in-Some.ticket (sym c.free_ticket-ticket.ensures ∙ c.in-Some.is) in
     record {
       live = ap₂ (λ (K : Rings) (t : Consumed). connection_at K t.connection) rings token
           ∙ get_or-set_same C.connections n (Some (consumed k)) None (within_some C.connections n k c.requires.live);
@@ -40,15 +40,15 @@ returns g c =
     let m = c.args.memory.now in
     let k = c.args.connection.now in
     let busy = is_full D x || has_two_jobs H.rings.jobs n in
-    let free = ticket_free busy (next_ticket H.rings.jobs n) c.in-Some.ticket (sym c.free-ticket-ticket.ensures ∙ c.in-Some.is) in
-    let quiet : c.is-none.result ≡ false = search rules in
+    let free = ticket_free busy (next_ticket H.rings.jobs n) c.in-Some.ticket (sym c.free_ticket-ticket.ensures ∙ c.in-Some.is) in
+    let quiet : c.is_none.result ≡ false = search rules in
     let looked : look busy k m ≡ Ok true =
-    ap (λ b. look b k m) (free.0 ∙ sym quiet) ∙ sym c.look.ensures ∙ c.in-ok-look.was ∙ ap Ok c.if-not-branch.false in
+    ap (λ b. look b k m) (free.0 ∙ sym quiet) ∙ sym c.look.ensures ∙ c.in_ok-look.was ∙ ap Ok c.if-not-branch.false in
     let on : Request → Rings → Consumed → Outcome g.D.Device.Meaning = λ q C t. spent D t.connection (consumed k) q (with_rings C H) m x in
     leaves_by _ _ _ _ _ _
     (ap (λ (r : Result Bool RingFault). either_of r
     (λ there. cond there (on (next_request k m) (consumed_on n k H.rings) (record { connection = n; id = 0; operation = 0 })) (record { answer = Ok Idle; host = H; memory = event_asked k m; device = x }))
     (λ e. record { answer = Err e; host = H; memory = m; device = x })) looked
-    ∙ ap (λ q. on q (consumed_on n k H.rings) (record { connection = n; id = 0; operation = 0 })) (sym c.next-request-request.ensures)
-    ∙ ap₂ (on c.next-request-request.result) (sym c.consume-token.ensures.rings) (sym c.consume-token.ensures.token))
+    ∙ ap (λ q. on q (consumed_on n k H.rings) (record { connection = n; id = 0; operation = 0 })) (sym c.next_request-request.ensures)
+    ∙ ap₂ (on c.next_request-request.result) (sym c.consume-token.ensures.rings) (sym c.consume-token.ensures.token))
     c.spend.ensures

@@ -12,10 +12,10 @@ returns c =
     let offset = c.args.offset in
     let start = 4096 * f + offset in
     let n : length bs ≡ start + length bs - start = omega arith in
-    let e = put_is_placed start (start + length bs - start) m c.copy-from-slice.new.self bs c.copy-from-slice.ensures.after n in
-    let g = part_granted (length m) f offset (length bs) (sym c.in-ok-has-part.ensures.answer) in
+    let e = put_is_placed start (start + length bs - start) m c.copy_from_slice.new.self bs c.copy_from_slice.ensures.after n in
+    let g = part_granted (length m) f offset (length bs) (sym c.in_ok-has_part.ensures.answer) in
     record {
-      answer = c.in-ok-has-part.ensures.answer;
+      answer = c.in_ok-has_part.ensures.answer;
       after = e;
       others = subst (OthersKept f m) (sym e) (placed_in_frame f offset bs m g.1 g.0);
     }

@@ -12,7 +12,7 @@ use Rattle.host.proofs.whole.run.Goals as goal
 
 pub loop-call-init : goal.loop-call-init
 loop-call-init g c p q =
-    ran_none g.B.Device.rules g.N.Device.rules pick _ (record { count = c.args.frames; new = sym c.in-ok-host.ensures; idle0 = p; idle1 = q })
+    ran_none g.B.Device.rules g.N.Device.rules pick _ (record { count = c.args.frames; new = sym c.in_ok-host.ensures; idle0 = p; idle1 = q })
 
 pub loop-call-preserved : goal.loop-call-preserved
 loop-call-preserved g c p q =
@@ -29,7 +29,7 @@ returns g c =
     let b = g.B.Device in
     let n = g.N.Device in
     record {
-      started = ap allowed c.in-ok-host.ensures;
+      started = ap allowed c.in_ok-host.ensures;
       lawful = λ p q. subst (λ xs. Ran b.rules n.rules pick (map call_of xs) (seen c.loop-call.host c.loop-call.memory (b.meaning c.loop-call.block) (n.meaning c.loop-call.net)))
           (take_all c.loop-call.call-index c.args.calls.now c.loop-call-test.false) (c.loop-call.invariant p q);
     }

@@ -14,9 +14,9 @@ step : (k : ℕ) (ss : List Segment) → k < length ss
     ≡ cond (ltb (get_or ss k none).last (get_or ss k none).first || ltb 7 (get_or ss k none).last) (Err (miss BadSegment k)) (segment_verdict (k + 1) (drop (k + 1) ss))
 step k ss h = at_drop_more (segment_verdict k) ss k none h
 
-pub returns-then-is-bad : goal.returns-then-is-bad
+pub returns-then-is_bad : goal.returns-then-is_bad
 unfolding none
-returns-then-is-bad c =
+returns-then-is_bad c =
     let k = c.loop-segment.segment-index in
     let ss = c.args.segments.now in
     let e = step k ss c.loop-segment-test.true in

@@ -27,19 +27,19 @@ loop-i-preserved c =
     let i = c.loop-i.i in
     let t = c.loop-i.table in
     let ss = c.args.request.now.segments in
-    let v = c.segment-span-span.result in
+    let v = c.segment_span-span.result in
     let eleven : length ss ≡ 11 = search rules in
     let size : length t ≡ 11 = c.loop-i.invariant.0 in
     let below : i < 11 = omega (arith, c.min-count.ensures) in
     let in_table : i < length t = omega arith in
     let in-segments : i < length ss = omega arith in
-    let is : v ≡ segment_span (get_or ss i none) = c.segment-span-span.ensures.value in
+    let is : v ≡ segment_span (get_or ss i none) = c.segment_span-span.ensures.value in
     let grown = more ss i in-segments in (
       length-set t i v ∙ size,
       take_more_set t i v in_table ∙ ap₂ (λ xs x. xs ++ x ∷ []) c.loop-i.invariant.1 is ∙ sym grown,
       ap₂ (λ a b. a + b) c.loop-i.invariant.2 (ap (λ (s : Span). s.length) is)
           ∙ sym (ap (sum_by (λ (s : Span). s.length)) grown ∙ sum_by_push (λ (s : Span). s.length) (map segment_span (take i ss)) (segment_span (get_or ss i none))),
-      omega (arith, c.loop-i.invariant.3, c.segment-span-span.ensures.bound),
+      omega (arith, c.loop-i.invariant.3, c.segment_span-span.ensures.bound),
     )
 
 pub returns : goal.returns

@@ -11,6 +11,6 @@ returns c =
     let page = c.args.page in
     let k = c.offset.result in
     let bytes = c.copy.new.buffer in
-    let word : c.from-le-bytes.result ≡ number 4 0 bytes = omega arith in
+    let word : c.from_le_bytes.result ≡ number 4 0 bytes = omega arith in
     word ∙ word_copied m bytes (4096 * page + k) (part_verdict (length m) page k 4) c.copy.ensures
     ∙ ap (λ o. after_ok (part_verdict (length m) page o 4) 0 (λ _. number 4 (4096 * page + o) m)) c.offset.ensures

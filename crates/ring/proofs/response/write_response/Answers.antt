@@ -22,22 +22,22 @@ pub returns-in-Block : goal.returns-in-Block
 returns-in-Block c =
     let q = c.args.reply in
     let f : SFits w16 q.status = search rules in
-    response_put c.args.kind _ _ _ _ c.args.page c.slot-start-start.result c.args.index q.id q.operation q.status
-    c.in-Block.is c.slot-start-start.ensures.value
+    response_put c.args.kind _ _ _ _ c.args.page c.slot_start-start.result c.args.index q.id q.operation q.status
+    c.in-Block.is c.slot_start-start.ensures.value
     (c.encode.ensures.value ∙ ap (λ z. block_bytes q.operation z q.id) (to_z-of_z w16 q.status f)) c.put.ensures
 
 pub returns-in-Send : goal.returns-in-Send
 returns-in-Send c =
     let q = c.args.reply in
     let f : SFits w16 q.status = search rules in
-    response_put c.args.kind _ _ _ _ c.args.page c.slot-start-start.result c.args.index q.id q.operation q.status
-    c.in-Send.is c.slot-start-start.ensures.value
+    response_put c.args.kind _ _ _ _ c.args.page c.slot_start-start.result c.args.index q.id q.operation q.status
+    c.in-Send.is c.slot_start-start.ensures.value
     (c.encode-in-Send.ensures.value ∙ ap (send_bytes (to_z w16 (of_z w16 q.status))) (and_mask q.id 16) ∙ ap (λ z. send_bytes z (q.id % 2 ^ 16)) (to_z-of_z w16 q.status f)) c.put-in-Send.ensures
 
 pub returns-in-Receive : goal.returns-in-Receive
 returns-in-Receive c =
     let q = c.args.reply in
     let f : SFits w16 q.status = search rules in
-    response_put c.args.kind _ _ _ _ c.args.page c.slot-start-start.result c.args.index q.id q.operation q.status
-    c.in-Receive.is c.slot-start-start.ensures.value
+    response_put c.args.kind _ _ _ _ c.args.page c.slot_start-start.result c.args.index q.id q.operation q.status
+    c.in-Receive.is c.slot_start-start.ensures.value
     (c.encode-in-Receive.ensures.value ∙ ap (receive_bytes (to_z w16 (of_z w16 q.status))) (and_mask q.id 16) ∙ ap (λ z. receive_bytes z (q.id % 2 ^ 16)) (to_z-of_z w16 q.status f)) c.put-in-Receive.ensures

@@ -3,8 +3,8 @@ use Rattle.rules.specs.Tables.{first_free}
 use Rattle.std.proofs.lemmas.List.{at_drop_more, at_drop_all}
 use Rattle.rules.proofs.tables.first_free.Goals as goal
 
-pub returns-then-is-none : goal.returns-then-is-none
-returns-then-is-none g c =
+pub returns-then-is_none : goal.returns-then-is_none
+returns-then-is_none g c =
     let k = c.loop-k.k in
     let s = c.args.table.now in
     let x = c.index-table-k.result in

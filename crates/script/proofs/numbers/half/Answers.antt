@@ -3,8 +3,8 @@ use Rattle.std.proofs.lemmas.Str.Parse.{parse_plain}
 use Rattle.script.proofs.Decimals.{own, plus_is_none}
 use Rattle.script.proofs.numbers.half.Goals as goal
 
-pub returns-then-has-plus : goal.returns-then-has-plus
-returns-then-has-plus c = search (rules, plus_is_none 16 c.args.word.now)
+pub returns-then-has_plus : goal.returns-then-has_plus
+returns-then-has_plus c = search (rules, plus_is_none 16 c.args.word.now)
 
 pub returns-in-Ok : goal.returns-in-Ok
 returns-in-Ok c = search (rules, parse_plain own 16 c.args.word.now _ c.parse.ensures.value.0)

@@ -9,8 +9,8 @@ returns c =
     let f = c.args.frame in
     let m = c.args.memory.now in
     let start : 4096 * f + 0 ≡ 4096 * f = omega arith in
-    granted _ _ _ _ _ _ _ _ _ _ _ _ c.in-ok-domain.ensures.answer c.in-ok-may-take.ensures refl
+    granted _ _ _ _ _ _ _ _ _ _ _ _ c.in_ok-domain.ensures.answer c.in_ok-may_take.ensures refl
     (search rules)
-    (c.zero-frame.ensures.after
-    ∙ ap (λ a. after_ok a m (λ _. placed (4096 * f + 0) (replicate 4096 0) m)) c.in-ok-zero-frame.was
+    (c.zero_frame.ensures.after
+    ∙ ap (λ a. after_ok a m (λ _. placed (4096 * f + 0) (replicate 4096 0) m)) c.in_ok-zero_frame.was
     ∙ ap (λ k. placed k (replicate 4096 0) m) start)

@@ -12,8 +12,8 @@ loop-i-preserved c =
     let i = c.loop-i.i in
     let s = c.loop-i.segments in
     let h : i < length s = omega (arith, c.loop-i.invariant.0) in (
-      length-set s i c.segment-at.result ∙ c.loop-i.invariant.0,
-      take_more_set s i c.segment-at.result h ∙ ap₂ (λ x y. x ++ y ∷ []) c.loop-i.invariant.1 c.segment-at.ensures
+      length-set s i c.segment_at.result ∙ c.loop-i.invariant.0,
+      take_more_set s i c.segment_at.result h ∙ ap₂ (λ x y. x ++ y ∷ []) c.loop-i.invariant.1 c.segment_at.ensures
           ∙ sym (segments_at_more i 24 c.args.slot.now),
     )
 
@@ -27,8 +27,8 @@ returns c =
     let ss : s ≡ segments_at 11 24 bs = sym (take_all i s full) ∙ c.loop-i.invariant.1 ∙ ap (λ n. segments_at n 24 bs) last in
     let o : get_or bs 0 0 ≡ number 1 0 bs = omega arith in
     let n : get_or bs 1 0 ≡ number 1 1 bs = omega arith in
-    let a : c.from-le-bytes.result ≡ number 8 8 bs = omega arith in
-    let b : c.from-le-bytes-2.result ≡ number 8 16 bs = omega arith in
-    let r : BlockRequest = record { operation = get_or bs 0 0; count = get_or bs 1 0; id = c.from-le-bytes.result; sector = c.from-le-bytes-2.result; segments = s } in
+    let a : c.from_le_bytes.result ≡ number 8 8 bs = omega arith in
+    let b : c.from_le_bytes-2.result ≡ number 8 16 bs = omega arith in
+    let r : BlockRequest = record { operation = get_or bs 0 0; count = get_or bs 1 0; id = c.from_le_bytes.result; sector = c.from_le_bytes-2.result; segments = s } in
     let e : r ≡ block_request.of (read block_request.layout bs) = cc in
     decodes block_request bs r c.fits-slot e refl

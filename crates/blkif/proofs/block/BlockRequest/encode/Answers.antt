@@ -24,15 +24,15 @@ loop-i-preserved c =
     let len : length ss ≡ 11 = search rules in
     let h : i < length ss = omega arith in
     let l : length out ≡ 112 = c.loop-i.invariant.0 in
-    let part = c.copy-from-slice-in-loop-i.new.self in
-    let y : part ≡ bytes_of (get_or ss i none) = c.copy-from-slice-in-loop-i.ensures.after ∙ c.segment-bytes.ensures.value in
+    let part = c.copy_from_slice-in-loop-i.new.self in
+    let y : part ≡ bytes_of (get_or ss i none) = c.copy_from_slice-in-loop-i.ensures.after ∙ c.segment_bytes.ensures.value in
     let eight : length part ≡ 8 = ap length y in (
       search (rules, overwrites),
       take-put_mid at (at + 8 - at) out part (24 + 8 * (i + 1)) (omega arith) (omega arith)
           ∙ ap₂ (λ a b. a ++ b) c.loop-i.invariant.1 y
           ∙ append_assoc (head_of m) (flat_map bytes_of (take i ss)) (bytes_of (get_or ss i none))
           ∙ ap (λ x. head_of m ++ x) (sym (joined-take_more ss i none h)),
-      All-more Fits ss i none h c.loop-i.invariant.2 c.segment-bytes.ensures.fits,
+      All-more Fits ss i none h c.loop-i.invariant.2 c.segment_bytes.ensures.fits,
     )
 
 pub returns : goal.returns

@@ -9,7 +9,7 @@ use Rattle.blkif.proofs.block.BlockResponse.decode.Goals as goal
 pub returns : goal.returns
 returns c =
     let bs = c.args.bytes.now in
-    let m : BlockResponse = record { id = c.from-le-bytes.result; operation = get_or bs 8 0; status = to_z w16 (of_z w16 c.from-le-bytes-2.result) } in
+    let m : BlockResponse = record { id = c.from_le_bytes.result; operation = get_or bs 8 0; status = to_z w16 (of_z w16 c.from_le_bytes-2.result) } in
     let e : m ≡ block_response.of (read block_response.layout bs) = search rules in
     let v : number 2 10 bs < 2 ^ 16 = omega (arith, c.fits-bytes 10, c.fits-bytes 11) in
     decodes block_response bs m c.fits-bytes e (ap (λ s. number 8 0 bs ∷ number 1 8 bs ∷ s ∷ []) (of_z-to_z w16 (number 2 10 bs) v))

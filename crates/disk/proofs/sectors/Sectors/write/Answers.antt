@@ -8,4 +8,4 @@ returns c =
     let xs = c.args.self.now.bytes.now in
     let ys = c.args.part.now in
     let i = c.args.at in
-    ap (put_mid i ((i + length ys) - i) xs) c.copy-from-slice.ensures.after ∙ row_written xs ys i c.requires
+    ap (put_mid i ((i + length ys) - i) xs) c.copy_from_slice.ensures.after ∙ row_written xs ys i c.requires

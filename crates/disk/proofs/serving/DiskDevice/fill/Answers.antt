@@ -15,8 +15,8 @@ returns c =
     let xs = d.sectors.bytes.now in
     let n = length c.args.part.now in
     let at = c.args.at in
-    let o = c.in-ok-order.order in
-    let mine : in_part (on_turn (first (items d.orders)) c.args.ticket) Inward (at + n) ≡ Ok o = ap (λ f. in_part (on_turn f c.args.ticket) Inward (at + n)) (sym c.front.ensures) ∙ sym c.part-on-turn.ensures ∙ c.in-ok-order.was in
+    let o = c.in_ok-order.order in
+    let mine : in_part (on_turn (first (items d.orders)) c.args.ticket) Inward (at + n) ≡ Ok o = ap (λ f. in_part (on_turn f c.args.ticket) Inward (at + n)) (sym c.front.ensures) ∙ sym c.part_on_turn.ensures ∙ c.in_ok-order.was in
     let served = ap (λ f. in_part (on_turn f c.args.ticket) Inward (at + n)) (first_of_all (items d.orders)) ∙ mine in
     let w = served-within (length xs) (items d.orders) c.args.ticket Inward (at + n) o d.held mine in
     record {

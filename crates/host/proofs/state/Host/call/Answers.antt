@@ -10,9 +10,9 @@ pub returns-in-Load : goal.returns-in-Load
 returns-in-Load g c =
     let b = g.B.Device in
     let n = g.N.Device in
-    let e = c.load-front.ensures in
-    let r = c.load-front.result in
-    let buffer = c.load-front.new.buffer in
+    let e = c.load_front.ensures in
+    let r = c.load_front.result in
+    let buffer = c.load_front.new.buffer in
     let w = seen c.args.self.now c.args.memory.now (b.meaning c.args.block.now) (n.meaning c.args.net.now) in
     record {
       step = subst (λ k. Kept b.rules n.rules pick w (call_of k) (reply_of k r buffer) w) (sym c.in-Load.is)

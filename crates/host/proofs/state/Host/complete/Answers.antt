@@ -11,12 +11,12 @@ use Rattle.host.specs.View.{seen}
 use Rattle.host.proofs.Bays.{kept_refused, kept_barred, kept_block, kept_net}
 use Rattle.host.proofs.state.Host.complete.Goals as goal
 
-pub returns-in-err-fitting : goal.returns-in-err-fitting
-returns-in-err-fitting g c =
+pub returns-in_err-fitting : goal.returns-in_err-fitting
+returns-in_err-fitting g c =
     let b = g.B.Device in
     let n = g.N.Device in
     let p = err_from_is_err_and c.from-residual.result c.from-residual.ensures.1 in
-    kept_refused b.rules n.rules b.laws n.laws _ _ _ _ (Complete c.args.bay) _ _ c.in-err-fitting.ensures.answer (p.1 ∙ ap Err p.2)
+    kept_refused b.rules n.rules b.laws n.laws _ _ _ _ (Complete c.args.bay) _ _ c.in_err-fitting.ensures.answer (p.1 ∙ ap Err p.2)
 
 pub returns-in-0 : goal.returns-in-0
 unfolding proceeds
@@ -24,8 +24,8 @@ returns-in-0 g c =
     let b = g.B.Device in
     let n = g.N.Device in
     let w = seen c.args.self.now c.args.memory.now (b.meaning c.args.block.now) (n.meaning c.args.net.now) in
-    kept_block b.rules n.rules b.laws n.laws _ _ _ _ (Complete c.args.bay) _ _ _ _ _ _ c.in-ok-fitting.ensures.answer
-    (ap (λ k. proceeds b.rules n.rules pick w (Complete k)) c.in-0.is) c.complete.ensures c.passed-up.ensures
+    kept_block b.rules n.rules b.laws n.laws _ _ _ _ (Complete c.args.bay) _ _ _ _ _ _ c.in_ok-fitting.ensures.answer
+    (ap (λ k. proceeds b.rules n.rules pick w (Complete k)) c.in-0.is) c.complete.ensures c.passed_up.ensures
 
 pub returns-in-1 : goal.returns-in-1
 unfolding proceeds
@@ -33,15 +33,15 @@ returns-in-1 g c =
     let b = g.B.Device in
     let n = g.N.Device in
     let w = seen c.args.self.now c.args.memory.now (b.meaning c.args.block.now) (n.meaning c.args.net.now) in
-    kept_net b.rules n.rules b.laws n.laws _ _ _ _ (Complete c.args.bay) _ _ _ _ _ _ c.in-ok-fitting.ensures.answer
-    (ap (λ k. proceeds b.rules n.rules pick w (Complete k)) c.in-1.is) c.complete-in-1.ensures c.passed-up-in-1.ensures
+    kept_net b.rules n.rules b.laws n.laws _ _ _ _ (Complete c.args.bay) _ _ _ _ _ _ c.in_ok-fitting.ensures.answer
+    (ap (λ k. proceeds b.rules n.rules pick w (Complete k)) c.in-1.is) c.complete-in-1.ensures c.passed_up-in-1.ensures
 
-pub returns-in-default : goal.returns-in-default
+pub returns-in_default : goal.returns-in_default
 unfolding proceeds
-returns-in-default g c =
+returns-in_default g c =
     let b = g.B.Device in
     let n = g.N.Device in
     let w = seen c.args.self.now c.args.memory.now (b.meaning c.args.block.now) (n.meaning c.args.net.now) in
     let past : ltb 1 c.args.bay ≡ true = search (rules, arith, nat_tests) in
-    kept_barred b.rules n.rules b.laws n.laws _ _ _ _ (Complete c.args.bay) _ c.in-ok-fitting.ensures.answer
+    kept_barred b.rules n.rules b.laws n.laws _ _ _ _ (Complete c.args.bay) _ c.in_ok-fitting.ensures.answer
     (ap (λ k. either_of (cond k (Err BadBay) (Ok tt)) (λ _. completed_in b.rules n.rules (bay_numbered c.args.bay) w) (λ e. record { answer = told (Err (InRing e)); world = w })) past)

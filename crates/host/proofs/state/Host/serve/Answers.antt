@@ -6,12 +6,12 @@ use Rattle.host.specs.View.{seen}
 use Rattle.host.proofs.Bays.{kept_refused, kept_block, kept_net}
 use Rattle.host.proofs.state.Host.serve.Goals as goal
 
-pub returns-in-err-fitting : goal.returns-in-err-fitting
-returns-in-err-fitting g c =
+pub returns-in_err-fitting : goal.returns-in_err-fitting
+returns-in_err-fitting g c =
     let b = g.B.Device in
     let n = g.N.Device in
     let p = err_from_is_err_and c.from-residual.result c.from-residual.ensures.1 in
-    kept_refused b.rules n.rules b.laws n.laws _ _ _ _ (Serve c.args.connection) _ _ c.in-err-fitting.ensures.answer (p.1 ∙ ap Err p.2)
+    kept_refused b.rules n.rules b.laws n.laws _ _ _ _ (Serve c.args.connection) _ _ c.in_err-fitting.ensures.answer (p.1 ∙ ap Err p.2)
 
 pub returns-in-BlockBay : goal.returns-in-BlockBay
 unfolding proceeds
@@ -19,9 +19,9 @@ returns-in-BlockBay g c =
     let b = g.B.Device in
     let n = g.N.Device in
     let w = seen c.args.self.now c.args.memory.now (b.meaning c.args.block.now) (n.meaning c.args.net.now) in
-    let bay = sym c.serving-bay.ensures ∙ c.in-BlockBay.is in
-    kept_block b.rules n.rules b.laws n.laws _ _ _ _ (Serve c.args.connection) _ _ _ _ _ _ c.in-ok-fitting.ensures.answer
-    (ap (λ k. served_in b.rules n.rules k c.args.connection w) bay) c.serve.ensures c.passed-up.ensures
+    let bay = sym c.serving_bay.ensures ∙ c.in-BlockBay.is in
+    kept_block b.rules n.rules b.laws n.laws _ _ _ _ (Serve c.args.connection) _ _ _ _ _ _ c.in_ok-fitting.ensures.answer
+    (ap (λ k. served_in b.rules n.rules k c.args.connection w) bay) c.serve.ensures c.passed_up.ensures
 
 pub returns-in-NetBay : goal.returns-in-NetBay
 unfolding proceeds
@@ -29,6 +29,6 @@ returns-in-NetBay g c =
     let b = g.B.Device in
     let n = g.N.Device in
     let w = seen c.args.self.now c.args.memory.now (b.meaning c.args.block.now) (n.meaning c.args.net.now) in
-    let bay = sym c.serving-bay.ensures ∙ c.in-NetBay.is in
-    kept_net b.rules n.rules b.laws n.laws _ _ _ _ (Serve c.args.connection) _ _ _ _ _ _ c.in-ok-fitting.ensures.answer
-    (ap (λ k. served_in b.rules n.rules k c.args.connection w) bay) c.serve-in-NetBay.ensures c.passed-up-in-NetBay.ensures
+    let bay = sym c.serving_bay.ensures ∙ c.in-NetBay.is in
+    kept_net b.rules n.rules b.laws n.laws _ _ _ _ (Serve c.args.connection) _ _ _ _ _ _ c.in_ok-fitting.ensures.answer
+    (ap (λ k. served_in b.rules n.rules k c.args.connection w) bay) c.serve-in-NetBay.ensures c.passed_up-in-NetBay.ensures

@@ -6,7 +6,7 @@ pub returns : goal.returns
 returns g c =
     let q = c.args.self.now in
     let here = c.in-Some.ensures in
-    let read = slice_get_read q.slots.now _ c.in-Some.at c.copy-out.new.item refl here.0 c.copy-out.ensures in
+    let read = slice_get_read q.slots.now _ c.in-Some.at c.copy_out.new.item refl here.0 c.copy_out.ensures in
     record {
       answer = c.discard.ensures.answer;
       item = ap (λ o. unwrap_or o c.args.item.now) (sym read ∙ here.1);

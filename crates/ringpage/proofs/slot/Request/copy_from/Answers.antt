@@ -18,19 +18,19 @@ of-kind : (kind known : Kind) (index : ℕ) (page : List ℕ) (r : Request) → 
 of-kind kind known index page r e v = subst (λ k. r ≡ request_at k (slot_start kind index) page) (sym e) v
 
 pub returns-in-Block : goal.returns-in-Block
-returns-in-Block c = let at = c.slot-start-at.result in
+returns-in-Block c = let at = c.slot_start-at.result in
     of-kind c.args.kind _ c.args.index c.args.page.now _ c.in-Block.is
-    (ap OfBlock (in_place block_request c.decode.result c.copy-from-slice.new.self c.args.page.now at (at + 112 - at) (slot_start c.args.kind c.args.index) (omega arith)
-    c.slot-start-at.ensures.value c.copy-from-slice.ensures.after c.decode.ensures.value))
+    (ap OfBlock (in_place block_request c.decode.result c.copy_from_slice.new.self c.args.page.now at (at + 112 - at) (slot_start c.args.kind c.args.index) (omega arith)
+    c.slot_start-at.ensures.value c.copy_from_slice.ensures.after c.decode.ensures.value))
 
 pub returns-in-Send : goal.returns-in-Send
-returns-in-Send c = let at = c.slot-start-at.result in
+returns-in-Send c = let at = c.slot_start-at.result in
     of-kind c.args.kind _ c.args.index c.args.page.now _ c.in-Send.is
-    (ap OfSend (in_place send_request c.decode-in-Send.result c.copy-from-slice-in-Send.new.self c.args.page.now at (at + 12 - at) (slot_start c.args.kind c.args.index) (omega arith)
-    c.slot-start-at.ensures.value c.copy-from-slice-in-Send.ensures.after c.decode-in-Send.ensures.value))
+    (ap OfSend (in_place send_request c.decode-in-Send.result c.copy_from_slice-in-Send.new.self c.args.page.now at (at + 12 - at) (slot_start c.args.kind c.args.index) (omega arith)
+    c.slot_start-at.ensures.value c.copy_from_slice-in-Send.ensures.after c.decode-in-Send.ensures.value))
 
 pub returns-in-Receive : goal.returns-in-Receive
-returns-in-Receive c = let at = c.slot-start-at.result in
+returns-in-Receive c = let at = c.slot_start-at.result in
     of-kind c.args.kind _ c.args.index c.args.page.now _ c.in-Receive.is
-    (ap OfReceive (in_place receive_request c.decode-in-Receive.result c.copy-from-slice-in-Receive.new.self c.args.page.now at (at + 8 - at) (slot_start c.args.kind c.args.index) (omega arith)
-    c.slot-start-at.ensures.value c.copy-from-slice-in-Receive.ensures.after c.decode-in-Receive.ensures.value))
+    (ap OfReceive (in_place receive_request c.decode-in-Receive.result c.copy_from_slice-in-Receive.new.self c.args.page.now at (at + 8 - at) (slot_start c.args.kind c.args.index) (omega arith)
+    c.slot_start-at.ensures.value c.copy_from_slice-in-Receive.ensures.after c.decode-in-Receive.ensures.value))

@@ -11,4 +11,4 @@ returns c =
     let n = c.len-len.result in
     let open-to : Order → Bool = λ o. open_way c.args.inward c.args.outward o.direction in
     let whole : n - 0 ≡ n = omega arith in
-    c.first-open.ensures ∙ ap (λ k. first_of open-to (take k h.table)) whole ∙ sym (ap (first_of open-to) (take_counted h.count n h.table c.len-len.ensures.is))
+    c.first_open.ensures ∙ ap (λ k. first_of open-to (take k h.table)) whole ∙ sym (ap (first_of open-to) (take_counted h.count n h.table c.len-len.ensures.is))

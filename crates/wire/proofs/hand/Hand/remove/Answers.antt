@@ -18,7 +18,7 @@ returns-then-i-len c =
     let at : i ≡ index_of t (take n xs) = c.position-i.ensures ∙ ap (λ k. index_of t (take k xs)) whole in
     let size : length (take n xs) ≡ n = sym (c.len-len.ensures.is ∙ ap length own) in
     let fits : n ≤ length xs = omega arith in
-    ap (λ ys. take (n - 1) (put_mid i (n - i) xs ys)) c.rotate-left.ensures.after
+    ap (λ ys. take (n - 1) (put_mid i (n - i) xs ys)) c.rotate_left.ensures.after
     ∙ turned_out xs i n c.if-i-len.true fits (post_of i (n - i) xs)
     ∙ ap (λ k. take k (take n xs) ++ drop (suc k) (take n xs)) at
     ∙ sym (others-found t (take n xs) (omega (arith, at, size, c.if-i-len.true)))

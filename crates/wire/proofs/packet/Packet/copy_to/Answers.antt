@@ -9,4 +9,4 @@ returns c =
     let n = c.len-len.result in
     let m = length c.args.part.now in
     let whole : n - 0 ≡ n = omega arith in
-    c.copy-row.ensures ∙ ap (λ k. row_at (take k p.bytes) c.args.at m) whole ∙ sym (ap (λ xs. row_at xs c.args.at m) (take_counted p.length n p.bytes c.len-len.ensures.is))
+    c.copy_row.ensures ∙ ap (λ k. row_at (take k p.bytes) c.args.at m) whole ∙ sym (ap (λ xs. row_at xs c.args.at m) (take_counted p.length n p.bytes c.len-len.ensures.is))

@@ -11,6 +11,6 @@ returns c =
     let fits : i + length ys ≤ length xs = omega arith in
     record {
       waiting = refl;
-      holding = ap (put_mid i ((i + length ys) - i) xs) c.copy-from-slice.ensures.after ∙ row_written xs ys i fits;
+      holding = ap (put_mid i ((i + length ys) - i) xs) c.copy_from_slice.ensures.after ∙ row_written xs ys i fits;
       room = refl;
     }

@@ -8,7 +8,7 @@ use Rattle.wire.proofs.packets.Packets.send.Goals as goal
 pub returns : goal.returns
 returns c =
     let q = c.args.self.now.line in
-    let p = c.push-from.ensures.pushed in
+    let p = c.push_from.ensures.pushed in
     let room = ne_eqb _ _ (λ (e : length (items q) ≡ length q.slots.now). omega (arith, e, length-map (items q) packet_bytes, c.requires)) in
     record {
       waiting = ap (map packet_bytes) (p.holds ∙ cond-false _ _ _ room) ∙ map_push packet_bytes (items q) _;

@@ -12,10 +12,10 @@ pub finish-status-requires : goal.finish-status-requires
 finish-status-requires c =
     let w = c.args.self.now in
     let os = orders_of w.hand in
-    let o = c.in-ok-order.order in
+    let o = c.in_ok-order.order in
     let ready = wire_ready (state w) in
     let n = length (waiting_of w.packets) in
-    let next = turn_is_next (first_of ready os) c.args.ticket o (ap (λ f. on_turn f c.args.ticket) (sym c.next.ensures) ∙ sym c.on-turn.ensures ∙ c.in-ok-order.was) in
+    let next = turn_is_next (first_of ready os) c.args.ticket o (ap (λ f. on_turn f c.args.ticket) (sym c.next.ensures) ∙ sym c.on_turn.ensures ∙ c.in_ok-order.was) in
     (way_open (ltb 0 n) (ltb n (room_of w.packets)) o.direction (first_passes ready os o next), first_fits ready os o w.held next)
 
 pub invariant-of-self : goal.invariant-of-self

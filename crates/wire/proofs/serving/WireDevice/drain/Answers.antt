@@ -12,7 +12,7 @@ hold-requires c =
     let w = c.args.self.now in
     let t = c.args.ticket in
     let end = c.args.at + length c.args.part.now in
-    let served = ap (λ n. in_part (on_turn n t) Outward end) (sym c.next.ensures) ∙ sym c.part-on-turn.ensures ∙ c.in-ok-part-on-turn.was in
+    let served = ap (λ n. in_part (on_turn n t) Outward end) (sym c.next.ensures) ∙ sym c.part_on_turn.ensures ∙ c.in_ok-part_on_turn.was in
     let short : end ≤ longest = drained_short (wire_ready (state w)) (orders_of w.hand) t end _ w.held served in
     omega arith
 
