@@ -18,10 +18,18 @@ import tempfile
 
 SNAKE = "/opt/rattle/port/notes/2026-11-18-names-are-in-snake-case/snake.py"
 DECLARED = re.compile(r"(?m)^( *)((?:abbrev |unfoldable |pub |data |record |ruleset )*)([^\s(){}.;,]+)(?: \{[^{}\n]*\})* : *(\S*)")
+MADE = re.compile(r"(?m)^ *(?:pub )?(?:record|data) ([^\s(){}.;,]+)")
 # Names of the library that stand as the head of a name in our lemmas.
 LIBRARY = """length append take drop replicate get_or set map sum_by count_by pow le number""".split()
 # Where the plain rule would meet another name, or where the library has a new name for a word in ours.
-OVER = {"getD-row": "get_or-row", "sumBy-map": "sum_by-map"}
+OVER = {
+    "getD-row": "get_or-row",
+    "sumBy-map": "sum_by-map",
+    "At-port": "AtPort",
+    "In-order": "InOrder",
+    "Seen-same": "SeenSame",
+    "Books-after": "BooksAfter",
+}
 
 
 def files():
@@ -53,6 +61,7 @@ def declared():
             if indent and "pub" not in head:
                 continue
             found[where].add(name)
+        found[where].update(m[1] for m in MADE.finditer(text))
     return found["specs"], found["proofs"]
 
 
@@ -90,8 +99,10 @@ def rows():
         table[name] = camel(name) if name[:1].isupper() else snake(name)
     heads = {n for n in table.values() if not n[:1].isupper()} | set(LIBRARY)
     for name in proofs - specs:
+        if "-" in name and "_" in name and not name[:1].isupper():
+            continue  # joined already
         table[name] = camel(name) if name[:1].isupper() else lemma(name, heads)
-    table.update({k: v for k, v in OVER.items() if k in specs | proofs})
+    table.update(OVER)
     return {k: v for k, v in table.items() if k != v}, specs | proofs
 
 

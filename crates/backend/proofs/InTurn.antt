@@ -12,7 +12,7 @@ use Rattle.request.specs.declared.content.Span.{Span}
 use Rattle.request.specs.declared.fields.Miss.{Miss}
 use Rattle.connection.specs.Tables.{handles_of}
 use Rattle.connection.specs.declared.tables.Job.{Job}
-use Rattle.backend.specs.Segments.{mode_for, released_all, part_in, with_segment, pin_all, emptied, MappingDone, Pinned, Segment-pinned}
+use Rattle.backend.specs.Segments.{mode_for, released_all, part_in, with_segment, pin_all, emptied, MappingDone, Pinned, SegmentPinned}
 
 -- the last of the handles is freed first
 pub released_push : (hs : List ℕ) (h : ℕ) (G : Grants) → released_all (hs ++ h ∷ []) G ≡ released_all hs (released 0 h G)
@@ -36,7 +36,7 @@ count_of : {T E Y : Type 0} (v : Result T E) (r : Result Unit E) (y y' : Y) (g :
 count_of (Ok t) r y y' g count n h a q o = ap count q ∙ h t
 count_of (Err e) r y y' g count n h a q o = absurd (let z : ◌≡◌ {A = ℕ} 0 1 = cc in omega arith)
 
-module _ (F : Frames) (guest : ℕ) (s : Span) (G : Grants) (j : Job) (r : Result Unit GrantFault) (G' : Grants) (j' : Job) (h : Segment-pinned F guest s G j r G' j') where
+module _ (F : Frames) (guest : ℕ) (s : Span) (G : Grants) (j : Job) (r : Result Unit GrantFault) (G' : Grants) (j' : Job) (h : SegmentPinned F guest s G j r G' j') where
   abbrev verdict : Result Grant GrantFault
   verdict = map_verdict F G 0 guest s.reference (mode_for j.direction)
 

@@ -98,7 +98,7 @@ pub record Pinned (F : Frames) (guest : ℕ) (spans : List Span) (G : Grants) (j
   pub job : j' ≡ (pin_all F guest 0 (emptied j) G spans).job
 
 -- one span more was mapped, as the next segment of the job, or refused
-pub record Segment-pinned (F : Frames) (guest : ℕ) (s : Span) (G : Grants) (j : Job) (r : Result Unit GrantFault) (G' : Grants) (j' : Job) : Type 0 where
+pub record SegmentPinned (F : Frames) (guest : ℕ) (s : Span) (G : Grants) (j : Job) (r : Result Unit GrantFault) (G' : Grants) (j' : Job) : Type 0 where
   pub answer : r ≡ granting (λ _. tt) (map_verdict F G 0 guest s.reference (mode_for j.direction))
   pub grants : G' ≡ after_ok (map_verdict F G 0 guest s.reference (mode_for j.direction)) G (λ g. pin 0 g.handle g.mapping G)
   pub job : j' ≡ after_ok (map_verdict F G 0 guest s.reference (mode_for j.direction)) j (λ g. with_segment j.count g.handle (part_in g.mapping.frame s) j)

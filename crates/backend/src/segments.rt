@@ -3,7 +3,7 @@ ghost use Rattle.std.specs.Prelude.{◌≡◌, ◌<◌};
 ghost use Rattle.request.specs.Checked.{asked_by};
 ghost use Rattle.request.specs.Content.{listed};
 ghost use Rattle.connection.specs.Tables.{handles_of};
-ghost use Rattle.backend.specs.Segments.{mode_for, released_all, part_in, job_for, order_for, Pinned, Segment-pinned};
+ghost use Rattle.backend.specs.Segments.{mode_for, released_all, part_in, job_for, order_for, Pinned, SegmentPinned};
 
 use abi::Kind;
 use blkif::SEGMENTS;
@@ -77,7 +77,7 @@ fn pin_segment(
     job: &mut Job,
 ) -> Result<(), GrantFault>
     requires { job.old.count < 11 }
-    ensures { Segment-pinned frames.now guest span.now grants.old job.old result grants.new job.new }
+    ensures { SegmentPinned frames.now guest span.now grants.old job.old result grants.new job.new }
 {
     let back_end = Domain { id: 0 };
     let mode = mode_for(job.direction);

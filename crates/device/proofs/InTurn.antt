@@ -2,7 +2,7 @@
 use Rattle.std.proofs.Common.{◌≡◌, ℕ, ◌+◌, List, ◌∷◌, length, Ok, Err, Result, sym, refl, ap, ◌∙◌, arith}
 use Rattle.rules.specs.Refusal.{granting, after_ok, and_then}
 use Rattle.device.specs.Meaning.{Rules}
-use Rattle.device.specs.Transfer.{handing, bytes_in, overwritten, filling_parts, filled_parts, draining_parts, drained_parts, Part-filled, Part-drained}
+use Rattle.device.specs.Transfer.{handing, bytes_in, overwritten, filling_parts, filled_parts, draining_parts, drained_parts, PartFilled, PartDrained}
 use Rattle.device.specs.declared.orders.Direction.TheVariants.{Inward, Outward}
 use Rattle.device.specs.declared.orders.Order.{Order}
 use Rattle.device.specs.declared.fault.DeviceFault.{DeviceFault}
@@ -31,7 +31,7 @@ refused-state (Err a) r x y f z next g h e = (refl, h.1)
 
 module _ {M : Type 0} (R : Rules M) (t at : ℕ) (p : Part) (ps : List Part) where
   -- after a part that was drained, the rest goes on from there
-  pub drain_more : (m m' : M) (xs : List ℕ) (r : Result Unit DeviceFault) → Part-drained R m t at p xs r m' → r ≡ Ok tt → (draining_parts R m t at (p ∷ ps) xs ≡ draining_parts R m' t (at + p.length) ps xs) × (drained_parts R m t at (p ∷ ps) xs ≡ drained_parts R m' t (at + p.length) ps xs)
+  pub drain_more : (m m' : M) (xs : List ℕ) (r : Result Unit DeviceFault) → PartDrained R m t at p xs r m' → r ≡ Ok tt → (draining_parts R m t at (p ∷ ps) xs ≡ draining_parts R m' t (at + p.length) ps xs) × (drained_parts R m t at (p ∷ ps) xs ≡ drained_parts R m' t (at + p.length) ps xs)
   drain_more m m' xs r h e =
       let s = handing R m t Outward at p (length xs) in
       let f : Order → M = λ o. R.with_bytes m o at (bytes_in p xs) in (
@@ -40,7 +40,7 @@ module _ {M : Type 0} (R : Rules M) (t at : ℕ) (p : Part) (ps : List Part) whe
       )
 
   -- a part that is refused ends the row, and the device is as it was
-  pub drain_refused : (m m' : M) (xs : List ℕ) (r : Result Unit DeviceFault) (g : DeviceFault) → Part-drained R m t at p xs r m' → r ≡ Err g → (draining_parts R m t at (p ∷ ps) xs ≡ Err g) × (drained_parts R m t at (p ∷ ps) xs ≡ m')
+  pub drain_refused : (m m' : M) (xs : List ℕ) (r : Result Unit DeviceFault) (g : DeviceFault) → PartDrained R m t at p xs r m' → r ≡ Err g → (draining_parts R m t at (p ∷ ps) xs ≡ Err g) × (drained_parts R m t at (p ∷ ps) xs ≡ m')
   drain_refused m m' xs r g h e =
       let s = handing R m t Outward at p (length xs) in
       let f : Order → M = λ o. R.with_bytes m o at (bytes_in p xs) in
@@ -50,7 +50,7 @@ module _ {M : Type 0} (R : Rules M) (t at : ℕ) (p : Part) (ps : List Part) whe
       )
 
   -- the same of parts that are filled, in a memory of n bytes
-  pub fill_more : (m m' : M) (xs xs' : List ℕ) (n : ℕ) (r : Result Unit DeviceFault) → length xs ≡ n → Part-filled R m t at p xs r m' xs' → r ≡ Ok tt → (filling_parts R m t at (p ∷ ps) n ≡ filling_parts R m t (at + p.length) ps n) × (filled_parts R m t at (p ∷ ps) xs ≡ filled_parts R m t (at + p.length) ps xs')
+  pub fill_more : (m m' : M) (xs xs' : List ℕ) (n : ℕ) (r : Result Unit DeviceFault) → length xs ≡ n → PartFilled R m t at p xs r m' xs' → r ≡ Ok tt → (filling_parts R m t at (p ∷ ps) n ≡ filling_parts R m t (at + p.length) ps n) × (filled_parts R m t at (p ∷ ps) xs ≡ filled_parts R m t (at + p.length) ps xs')
   fill_more m m' xs xs' n r size h e =
       let s = handing R m t Inward at p (length xs) in
       let f : Order → List ℕ = λ o. overwritten p (R.bytes m o at p.length) xs in (
@@ -58,7 +58,7 @@ module _ {M : Type 0} (R : Rules M) (t at : ℕ) (p : Part) (ps : List Part) whe
         granted-state s r xs xs' f xs (λ ys. filled_parts R m t (at + p.length) ps ys) (h.answer, h.memory) e,
       )
 
-  pub fill_refused : (m m' : M) (xs xs' : List ℕ) (n : ℕ) (r : Result Unit DeviceFault) (g : DeviceFault) → length xs ≡ n → Part-filled R m t at p xs r m' xs' → r ≡ Err g → (filling_parts R m t at (p ∷ ps) n ≡ Err g) × (filled_parts R m t at (p ∷ ps) xs ≡ xs')
+  pub fill_refused : (m m' : M) (xs xs' : List ℕ) (n : ℕ) (r : Result Unit DeviceFault) (g : DeviceFault) → length xs ≡ n → PartFilled R m t at p xs r m' xs' → r ≡ Err g → (filling_parts R m t at (p ∷ ps) n ≡ Err g) × (filled_parts R m t at (p ∷ ps) xs ≡ xs')
   fill_refused m m' xs xs' n r g size h e =
       let s = handing R m t Inward at p (length xs) in
       let f : Order → List ℕ = λ o. overwritten p (R.bytes m o at p.length) xs in

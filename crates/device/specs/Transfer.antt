@@ -62,23 +62,23 @@ module _ {M : Type 0} (R : Rules M) where
   drained_parts m t at (p ∷ ps) xs = after_ok (handing m t Outward at p (length xs)) m (λ o. drained_parts (R.with_bytes m o at (bytes_in p xs)) t (at + p.length) ps xs)
 
   -- a fill of one part: exactly its bytes change, or none, and the device does not
-  pub record Part-filled (m : M) (t at : ℕ) (p : Part) (xs : List ℕ) (r : Result Unit DeviceFault) (m' : M) (xs' : List ℕ) : Type 0 where
+  pub record PartFilled (m : M) (t at : ℕ) (p : Part) (xs : List ℕ) (r : Result Unit DeviceFault) (m' : M) (xs' : List ℕ) : Type 0 where
     pub answer : r ≡ granting (λ _. tt) (handing m t Inward at p (length xs))
     pub after : m' ≡ m
     pub memory : xs' ≡ filled_part m t at p xs
 
   -- a drain of one part
-  pub record Part-drained (m : M) (t at : ℕ) (p : Part) (xs : List ℕ) (r : Result Unit DeviceFault) (m' : M) : Type 0 where
+  pub record PartDrained (m : M) (t at : ℕ) (p : Part) (xs : List ℕ) (r : Result Unit DeviceFault) (m' : M) : Type 0 where
     pub answer : r ≡ granting (λ _. tt) (handing m t Outward at p (length xs))
     pub after : m' ≡ drained_part m t at p xs
 
   -- a fill of parts in turn
-  pub record Parts-filled (m : M) (t at : ℕ) (ps : List Part) (xs : List ℕ) (r : Result Unit DeviceFault) (m' : M) (xs' : List ℕ) : Type 0 where
+  pub record PartsFilled (m : M) (t at : ℕ) (ps : List Part) (xs : List ℕ) (r : Result Unit DeviceFault) (m' : M) (xs' : List ℕ) : Type 0 where
     pub answer : r ≡ filling_parts m t at ps (length xs)
     pub after : m' ≡ m
     pub memory : xs' ≡ filled_parts m t at ps xs
 
   -- a drain of parts in turn
-  pub record Parts-drained (m : M) (t at : ℕ) (ps : List Part) (xs : List ℕ) (r : Result Unit DeviceFault) (m' : M) : Type 0 where
+  pub record PartsDrained (m : M) (t at : ℕ) (ps : List Part) (xs : List ℕ) (r : Result Unit DeviceFault) (m' : M) : Type 0 where
     pub answer : r ≡ draining_parts m t at ps xs
     pub after : m' ≡ drained_parts m t at ps xs

@@ -1,7 +1,7 @@
 // Handing parts of a larger memory to a device.
 ghost use Rattle.std.specs.Prelude.{◌≡◌, ◌+◌, ◌<◌, length, Ok};
 ghost use Rattle.rules.specs.Refusal.{refuse_first};
-ghost use Rattle.device.specs.Transfer.{part_rules, end_of, Part-filled, Part-drained, Parts-filled, Parts-drained};
+ghost use Rattle.device.specs.Transfer.{part_rules, end_of, PartFilled, PartDrained, PartsFilled, PartsDrained};
 
 use crate::{Device, DeviceFault};
 
@@ -37,7 +37,7 @@ pub fn fill_part<D: Device>(
     memory: &mut [u8],
     part: Part,
 ) -> Result<(), DeviceFault>
-    ensures { Part-filled rules (meaning device.old) ticket at part memory.old result (meaning device.new) memory.new }
+    ensures { PartFilled rules (meaning device.old) ticket at part memory.old result (meaning device.new) memory.new }
 {
     let end = end_within(memory.len(), at, part)?;
     device.fill(ticket, at, &mut memory[part.start as usize..end])
@@ -51,7 +51,7 @@ pub fn drain_part<D: Device>(
     memory: &[u8],
     part: Part,
 ) -> Result<(), DeviceFault>
-    ensures { Part-drained rules (meaning device.old) ticket at part memory.now result (meaning device.new) }
+    ensures { PartDrained rules (meaning device.old) ticket at part memory.now result (meaning device.new) }
 {
     let end = end_within(memory.len(), at, part)?;
     device.drain(ticket, at, &memory[part.start as usize..end])
@@ -65,7 +65,7 @@ pub fn fill_parts<D: Device>(
     memory: &mut [u8],
     parts: &[Part],
 ) -> Result<(), DeviceFault>
-    ensures { Parts-filled rules (meaning device.old) ticket at parts.now memory.old result (meaning device.new) memory.new }
+    ensures { PartsFilled rules (meaning device.old) ticket at parts.now memory.old result (meaning device.new) memory.new }
 {
     let mut next = at;
     for part in parts {
@@ -83,7 +83,7 @@ pub fn drain_parts<D: Device>(
     memory: &[u8],
     parts: &[Part],
 ) -> Result<(), DeviceFault>
-    ensures { Parts-drained rules (meaning device.old) ticket at parts.now memory.now result (meaning device.new) }
+    ensures { PartsDrained rules (meaning device.old) ticket at parts.now memory.now result (meaning device.new) }
 {
     let mut next = at;
     for part in parts {

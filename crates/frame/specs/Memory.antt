@@ -38,6 +38,6 @@ pub record Written (m : List ℕ) (f offset : ℕ) (bs : List ℕ) (r : Result U
   pub others : OthersKept f m m'
 
 -- a part of a frame was read, or the read refused and the buffer left as it was
-pub record Read-part (m : List ℕ) (f offset : ℕ) (buffer : List ℕ) (r : Result Unit FrameFault) (buffer' : List ℕ) : Type 0 where
+pub record ReadPart (m : List ℕ) (f offset : ℕ) (buffer : List ℕ) (r : Result Unit FrameFault) (buffer' : List ℕ) : Type 0 where
   pub answer : r ≡ part_verdict (length m) f offset (length buffer)
   pub filled : buffer' ≡ after_ok r buffer (λ _. bytes_at (4096 * f + offset) (length buffer) m)

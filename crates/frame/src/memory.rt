@@ -1,6 +1,6 @@
 // The bytes of frames, in a memory that is lent to each function.
 ghost use Rattle.std.specs.Prelude.{◌≡◌, ◌+◌, ◌*◌, ◌≤◌, length, replicate, OnOk};
-ghost use Rattle.frame.specs.Memory.{part_verdict, Written, Read-part};
+ghost use Rattle.frame.specs.Memory.{part_verdict, Written, ReadPart};
 
 use crate::fault::FrameFault;
 
@@ -28,7 +28,7 @@ pub fn read_part(
     offset: u32,
     buffer: &mut [u8],
 ) -> Result<(), FrameFault>
-    ensures { Read-part memory.now frame offset buffer.old result buffer.new }
+    ensures { ReadPart memory.now frame offset buffer.old result buffer.new }
 {
     has_part(memory, frame, offset, buffer.len())?;
     let start = FRAME_SIZE * (frame as usize) + offset as usize;

@@ -18,7 +18,7 @@ use Rattle.law.specs.Step.{Ends, step, proceeds, told, passed_up, by_verdict, gu
 use Rattle.law.specs.Run.{Kept}
 use Rattle.law.specs.Law.{Picks}
 use Rattle.law.proofs.Kept.{kept}
-use Rattle.table_calls.specs.Parts.{heard, Granted-by, load_verdict, taken_up}
+use Rattle.table_calls.specs.Parts.{heard, GrantedBy, load_verdict, taken_up}
 use Rattle.host.specs.View.{told_with}
 
 -- the port that next picks was pending
@@ -62,7 +62,7 @@ module _ {M N : Type 0} (R : Rules M) (S : Rules N) where
 
     pub kept_by : Laws R → Laws S → (c : Call) (r : Result Answer HostFault) (H' : Tables) (m' : List ℕ)
         → step R S pick before c ≡ ends
-        → Granted-by rules g verdict answers H m tables-by memory-by r H' m'
+        → GrantedBy rules g verdict answers H m tables-by memory-by r H' m'
         → Kept R S pick before c (told r) (record { host = H'; memory = m'; bay0 = x; bay1 = y })
     kept_by lr ls c r H' m' is parts =
         let same = same_ends (refuse_first rules (Ok tt)) verdict in
@@ -113,7 +113,7 @@ module _ {M N : Type 0} (R : Rules M) (S : Rules N) where
     one_of false K = refl
 
     pub kept_next : Laws R → Laws S → (r : Result Answer HostFault) (H' : Tables)
-        → Granted-by {T = Unit} (next_rules H m d) InEvent (Ok tt) (λ _. Port (next_port pick (word H.events d))) H m (λ _. taken_up d H) (λ _. m) r H' m
+        → GrantedBy {T = Unit} (next_rules H m d) InEvent (Ok tt) (λ _. Port (next_port pick (word H.events d))) H m (λ _. taken_up d H) (λ _. m) r H' m
         → Kept R S pick (in-world H) (Next d) (told r) (in-world H')
     unfolding step proceeds
     kept_next lr ls r H' parts =

@@ -13,13 +13,13 @@ use Rattle.law.proofs.Bytes.{placed-size}
 use Rattle.law.proofs.Inv.{no_part}
 
 -- the part p lies in the frame f
-pub record Part-in (p : Part) (f : ℕ) : Type 0 where
+pub record PartIn (p : Part) (f : ℕ) : Type 0 where
   pub offset : ℕ
   pub start : p.start ≡ 4096 * f + offset
   pub inside : offset + p.length ≤ 4096
 
 -- bytes over a part of the memory leave every frame but the one in which it lies
-overwritten-others : (p : Part) (f g : ℕ) (ys m : List ℕ) → Part-in p f → (g ≡ f → ⊥) → length ys ≡ p.length → end_of p ≤ length m
+overwritten-others : (p : Part) (f g : ℕ) (ys m : List ℕ) → PartIn p f → (g ≡ f → ⊥) → length ys ≡ p.length → end_of p ≤ length m
     → frame_bytes g (overwritten p ys m) ≡ frame_bytes g m
 overwritten-others p f g ys m lies other size within =
     let offset : ℕ = lies.offset in
@@ -35,7 +35,7 @@ overwritten-others p f g ys m lies other size within =
 
 -- fills leave every frame in which no part lies
 pub filled-others : {X : Type 0} (D : Rules X) → Laws D → (x : X) (t at : ℕ) (ps : List Part) (m : List ℕ) (g : ℕ)
-    → ((i : ℕ) → i < length ps → (f : ℕ) × (Part-in (get_or ps i no_part) f × (g ≡ f → ⊥)))
+    → ((i : ℕ) → i < length ps → (f : ℕ) × (PartIn (get_or ps i no_part) f × (g ≡ f → ⊥)))
     → frame_bytes g (filled_parts D x t at ps m) ≡ frame_bytes g m
 filled-others D laws x t at [] m g lies = refl
 filled-others D laws x t at (p ∷ ps) m g lies =

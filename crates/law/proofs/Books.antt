@@ -226,7 +226,7 @@ owns_parts F d f e =
     (ltb-true f F.count w.0, domain_is d (owner_of F f) w.1)
 
 -- what an accepted map says
-pub record Map-accepted (F : Frames) (G : Grants) (d o n md : ℕ) (g : Grant) : Type 0 where
+pub record MapAccepted (F : Frames) (G : Grants) (d o n md : ℕ) (g : Grant) : Type 0 where
   pub handle : g.handle < 64
   pub free : at G.handles (key d g.handle) ≡ None
   pub lowest_is : lowest G.handles d ≡ Some g.handle
@@ -238,7 +238,7 @@ pub record Map-accepted (F : Frames) (G : Grants) (d o n md : ℕ) (g : Grant) :
   pub exists : g.mapping.frame < F.count
 
 -- and that it says so
-pub map-accepted : (F : Frames) (G : Grants) (d o n md : ℕ) (g : Grant) → d < 8 → length G.handles ≡ 512 → map_verdict F G d o n md ≡ Ok g → Map-accepted F G d o n md g
+pub map-accepted : (F : Frames) (G : Grants) (d o n md : ℕ) (g : Grant) → d < 8 → length G.handles ≡ 512 → map_verdict F G d o n md ≡ Ok g → MapAccepted F G d o n md g
 map-accepted F G d o n md g b size q =
     let a = accepted F G d o n md g q in
     let low = lowest_is_free G.handles d g.handle b size a.free in
@@ -289,7 +289,7 @@ module _ (F : Frames) (G : Grants) (a : Account) (d o n md : ℕ) (g : Grant)
   the-note = record { mapping = record { owner = o; reference = n; frame = the-entry.frame; mode = mode_of md }; under = the-entry }
 
   -- what the host says by accepting
-  map-says : Map-accepted F G d o n md g
+  map-says : MapAccepted F G d o n md g
   map-says = map-accepted F G d o n md g domain b.sound.handles_size verdict
 
   -- the noted mapping is the granted one
@@ -391,11 +391,11 @@ module _ (F : Frames) (G : Grants) (a : Account) (d h : ℕ) (m : MappingNote) (
       ]
 
   -- the books of a host with the tables G', and the note gone
-  abbrev Books-after : Grants → Type 0
-  Books-after G' = Books F G' a.owners a.entries (set a.mappings (key d h) None) a.maps (counted the-mapping.frame a.unmaps)
+  abbrev BooksAfter : Grants → Type 0
+  BooksAfter G' = Books F G' a.owners a.entries (set a.mappings (key d h) None) a.maps (counted the-mapping.frame a.unmaps)
 
   -- they hold of those tables
-  books-after : Books-after after
+  books-after : BooksAfter after
   books-after =
       let i : ℕ = place_of the-mapping in
       let r : Record = removed the-mapping.mode (record_at G i) in
@@ -423,8 +423,8 @@ module _ (F : Frames) (G : Grants) (a : Account) (d h : ℕ) (m : MappingNote) (
       }
 
   -- so they hold when the mapping ends
-  noted-unpinned : Books-after (unpin d h the-mapping G)
-  noted-unpinned = subst Books-after (sym unpin-is) books-after
+  noted-unpinned : BooksAfter (unpin d h the-mapping G)
+  noted-unpinned = subst BooksAfter (sym unpin-is) books-after
 
 -- a handle below 64 is in use if there is something at its place
 pub in_use-here : (G : Grants) (d h : ℕ) → h < 64 → in_use G d h ≡ at G.handles (key d h)

@@ -35,21 +35,21 @@ use Rattle.answer.specs.declared.reply.Answer.TheVariants.{Idle, Completed}
 use Rattle.law.specs.Serve.{Outcome, responded}
 use Rattle.law.specs.Complete.{closed, finished, completed_job, completed}
 use Rattle.law.specs.Account.{Account, ConnectionNote, JobNote, MappingNote, complete_noted, job_answered, mappings_ended, noted_connection, noted_job, with_response}
-use Rattle.law.specs.Keeps.{Writes, Maps, In-slot, nth, responses, under_ticket, handed, Pairing, noted_pairing, host_pairing, Work, noted_work, host_work}
-use Rattle.law.proofs.Inv.{BooksOf, Links, Requests, BayHeld, Words, Segment-mapped, Job-held, Order-held, Request-held, no_part}
+use Rattle.law.specs.Keeps.{Writes, Maps, InSlot, nth, responses, under_ticket, handed, Pairing, noted_pairing, host_pairing, Work, noted_work, host_work}
+use Rattle.law.proofs.Inv.{BooksOf, Links, Requests, BayHeld, Words, SegmentMapped, JobHeld, OrderHeld, RequestHeld, no_part}
 use Rattle.law.proofs.Books.{frame-owned, owns_parts, in_force}
 use Rattle.law.proofs.Links.{connection-noted, job_noted_too, links_completed, job_notes_size}
 use Rattle.law.proofs.Requested.{requests-completed}
 use Rattle.law.proofs.Tickets.{at_set, taken_inside, same_some}
-use Rattle.law.proofs.Released.{All-released, segments_released, counted-stands, uncounted}
+use Rattle.law.proofs.Released.{AllReleased, segments_released, counted-stands, uncounted}
 use Rattle.law.proofs.Bytes.{page_there, responded-size, responded-others}
-use Rattle.law.proofs.Altered.{Part-in, filled-others}
+use Rattle.law.proofs.Altered.{PartIn, filled-others}
 use Rattle.law.proofs.Marks.{responded_words}
 use Rattle.law.proofs.Bays.{under_done, turn_order}
 use Rattle.law.proofs.Moves.{moved_orders, moves_granted, done_granted, moved_size}
 use Rattle.law.proofs.Cases.{by_either, by_some, by_cond}
 use Rattle.law.proofs.Good.{no_response}
-use Rattle.law.proofs.Outcomes.{Host-inv, page-written, Outcome-good}
+use Rattle.law.proofs.Outcomes.{HostInv, page-written, OutcomeGood}
 use Rattle.law.proofs.Serving.{outcome_same, response_noted, bays_apart}
 
 -- parts of at most 4,096 bytes
@@ -73,8 +73,8 @@ in_bay_is b (Some x) j e = by (same_bay (bay_of x.kind) b) refl e
     by false q r = absurd (let z : ◌≡◌ {A = ℕ} 0 1 = cc in omega arith)
 
 -- each segment of a job lies in a frame that domain 0 has mapped
-module _ (a : Account) (H : Tables) (m : List ℕ) (i : Host-inv a H m) (t : ℕ) (j : Job) (there : at H.rings.jobs t ≡ Some j) where
-  job-is-held : Job-held H.grants.handles H.rings t j
+module _ (a : Account) (H : Tables) (m : List ℕ) (i : HostInv a H m) (t : ℕ) (j : Job) (there : at H.rings.jobs t ≡ Some j) where
+  job-is-held : JobHeld H.grants.handles H.rings t j
   job-is-held = i.links.job t j there
 
   parts-count : length (parts_of j) ≡ j.count
@@ -83,10 +83,10 @@ module _ (a : Account) (H : Tables) (m : List ℕ) (i : Host-inv a H m) (t : ℕ
   handles-count : length (handles_of j) ≡ j.count
   handles-count = length-take-le j.count j.handles (omega (arith, job-is-held.few, job-is-held.handles_size))
 
-  pub segment : (n : ℕ) → n < length (parts_of j) → Segment-mapped H.grants.handles j.direction (get_or j.handles n 0) (get_or (parts_of j) n no_part)
+  pub segment : (n : ℕ) → n < length (parts_of j) → SegmentMapped H.grants.handles j.direction (get_or j.handles n 0) (get_or (parts_of j) n no_part)
   segment n l =
       let l' : n < j.count = omega (arith, parts-count) in
-      subst (λ (p : Part). Segment-mapped H.grants.handles j.direction (get_or j.handles n 0) p) (sym (get_or-take j.count j.parts n no_part l')) (job-is-held.segments n l')
+      subst (λ (p : Part). SegmentMapped H.grants.handles j.direction (get_or j.handles n 0) p) (sym (get_or-take j.count j.parts n no_part l')) (job-is-held.segments n l')
 
   -- its frame is one of the memory's
   pub segment-frame : (n : ℕ) (l : n < length (parts_of j)) → (segment n l).mapping.frame < H.frames.count
@@ -94,7 +94,7 @@ module _ (a : Account) (H : Tables) (m : List ℕ) (i : Host-inv a H m) (t : ℕ
       let s = segment n l in
       (owns_parts H.frames s.mapping.owner s.mapping.frame (frame-owned H.frames H.grants a i.books 0 (get_or j.handles n 0) s.mapping (omega arith) s.below s.there)).0
 
-  pub segment_in : (n : ℕ) (l : n < length (parts_of j)) → Part-in (get_or (parts_of j) n no_part) (segment n l).mapping.frame
+  pub segment_in : (n : ℕ) (l : n < length (parts_of j)) → PartIn (get_or (parts_of j) n no_part) (segment n l).mapping.frame
   segment_in n l = let s = segment n l in record { offset = s.offset; start = s.start; inside = s.inside }
 
   -- domain 0 has it mapped, by the account
@@ -124,14 +124,14 @@ module _ (a : Account) (H : Tables) (m : List ℕ) (i : Host-inv a H m) (t : ℕ
       omega (arith, sum, parts-count, job-is-held.few)
 
   -- all of that of one segment: its frame is the memory's, and domain 0 has it mapped
-  pub segment_facts : (n : ℕ) → n < length (parts_of j) → (f : ℕ) × (Part-in (get_or (parts_of j) n no_part) f × ((f < H.frames.count) × Maps a 0 f))
+  pub segment_facts : (n : ℕ) → n < length (parts_of j) → (f : ℕ) × (PartIn (get_or (parts_of j) n no_part) f × ((f < H.frames.count) × Maps a 0 f))
   segment_facts n l = ((segment n l).mapping.frame, (segment_in n l, (segment-frame n l, segment-maps n l)))
 
 module _ {X : Type 0} (D : Rules X) (laws : Laws D) (b : Bay) (a : Account) (H : Tables) (m : List ℕ) (x : X)
-    (i : Host-inv a H m) (held : BayHeld D x b a.jobs) where
+    (i : HostInv a H m) (held : BayHeld D x b a.jobs) where
   -- a good outcome, with the account that complete's answer makes
   abbrev pub CompleteGood : Outcome X → Type 0
-  CompleteGood o = Outcome-good D b a H m x (after_ok o.answer a (λ z. complete_noted z (ready_ticket D x) a)) o
+  CompleteGood o = OutcomeGood D b a H m x (after_ok o.answer a (λ z. complete_noted z (ready_ticket D x) a)) o
 
   module _ (t : ℕ) (j : Job) (there : at H.rings.jobs t ≡ Some j) where
     -- moving alters only frames that domain 0 has mapped for writing
@@ -164,7 +164,7 @@ module _ {X : Type 0} (D : Rules X) (laws : Laws D) (b : Bay) (a : Account) (H :
       note-bay : same_bay (bay_of note.kind) b ≡ true
       note-bay = subst (λ (kd : Kind). same_bay (bay_of kd) b ≡ true) (sym (ap (λ (z : Work). z.kind) work)) bay-same
 
-      order : Order-held t j note
+      order : OrderHeld t j note
       order = i.requests.order t j note there noted-there
 
       turn : next_order D x ≡ Some note.order
@@ -205,7 +205,7 @@ module _ {X : Type 0} (D : Rules X) (laws : Laws D) (b : Bay) (a : Account) (H :
       unfolding old
       pairing = noted-connection-too.1.1
 
-      request : Request-held j note old
+      request : RequestHeld j note old
       request = i.requests.request t j note old there noted-there (ap (λ c. at a.connections c) connection-same ∙ old-there)
 
       -- the account with the response noted, by the host's number of the connection and its handles
@@ -223,7 +223,7 @@ module _ {X : Type 0} (D : Rules X) (laws : Laws D) (b : Bay) (a : Account) (H :
           ∙ ap (λ c. account-then c note.handles) connection-same
           ∙ ap (account-then j.connection) handles_same
 
-      released : All-released H.frames H.grants (released_all (handles_of j) H.grants) (answered j.connection) (mappings_ended (handles_of j) (answered j.connection)) (handles_of j)
+      released : AllReleased H.frames H.grants (released_all (handles_of j) H.grants) (answered j.connection) (mappings_ended (handles_of j) (answered j.connection)) (handles_of j)
       released = segments_released H.frames H.grants (answered j.connection) (handles_of j) i.books
           (λ n l. let l' : n < j.count = omega (arith, handles-count a H m i t j there) in subst (λ h. h < 64) (sym (get_or-take j.count j.handles n 0 l')) ((job-is-held a H m i t j there).segments n l').below)
 
@@ -245,7 +245,7 @@ module _ {X : Type 0} (D : Rules X) (laws : Laws D) (b : Bay) (a : Account) (H :
           ap (λ n. responded_memory k n (operation_of request.request) status memory-then) request.id
           ∙ ap (λ n. responded_memory k j.id n status memory-then) request.operation
 
-      finished-good : Outcome-good D b a H m x (account-then j.connection (handles_of j))
+      finished-good : OutcomeGood D b a H m x (account-then j.connection (handles_of j))
           (record { answer = Ok Completed; host = responded j.connection k last-memory (closed t j H); memory = last-memory; device = D.without device-then note.order })
       finished-good =
           let all = released in
@@ -281,7 +281,7 @@ module _ {X : Type 0} (D : Rules X) (laws : Laws D) (b : Bay) (a : Account) (H :
               | inl e ↦ absurd (wr (subst (λ g. Writes a 0 g) (sym e) (page-written a H m i k (i.links.page j.connection k live))))
               | inr n ↦ responded-others k j.id j.operation status memory-then f n ∙ moved-others j.direction refl f wr
             ];
-            response = λ c n o q e low high at-index. subst (λ mm. In-slot o n q mm) answered-memory
+            response = λ c n o q e low high at-index. subst (λ mm. InSlot o n q mm) answered-memory
                 (response_noted a j.connection old (with_response note.index old) note.index k request.request status memory-then old-there refl
                 (ap (λ (p : Pairing). p.kind) pairing) (ap (λ (p : Pairing). p.page) pairing) request.there (i.links.indices j.connection k old live old-there).produced page-inside
                 c n o q (ap (λ cs. at cs c) (sym all.connections) ∙ e) low high at-index);
@@ -298,7 +298,7 @@ module _ {X : Type 0} (D : Rules X) (laws : Laws D) (b : Bay) (a : Account) (H :
           (λ none. absurd (let z : None ≡ Some k = sym none ∙ live in let y : ◌≡◌ {A = ℕ} 0 1 = cc in omega arith))
           (λ k' some. subst (λ (y : Connection). CompleteGood (record { answer = Ok Completed; host = responded j.connection y (responded_memory y j.id j.operation status memory-then) (closed t j H); memory = responded_memory y j.id j.operation status memory-then; device = D.without device-then note.order }))
           (same_some (at H.rings.connections j.connection) k k' live some)
-          (subst (λ (z : Account). Outcome-good D b a H m x z (record { answer = Ok Completed; host = responded j.connection k last-memory (closed t j H); memory = last-memory; device = D.without device-then note.order })) (sym account-is) finished-good))))
+          (subst (λ (z : Account). OutcomeGood D b a H m x z (record { answer = Ok Completed; host = responded j.connection k last-memory (closed t j H); memory = last-memory; device = D.without device-then note.order })) (sym account-is) finished-good))))
           (λ e' q. absurd (let z : ◌≡◌ {A = Result Order DeviceFault} (Ok note.order) (Err e') = sym ends ∙ q in let y : ◌≡◌ {A = ℕ} 0 1 = cc in omega arith)))
           (λ e q. absurd (let z : ◌≡◌ {A = Result Unit DeviceFault} (Ok tt) (Err e) = sym moves ∙ q in let y : ◌≡◌ {A = ℕ} 0 1 = cc in omega arith))
 

@@ -33,9 +33,9 @@ use Rattle.law.specs.Call.{Connect, Disconnect}
 use Rattle.law.specs.Connect.{connect_rules, connect_verdict, new_number, new_connection, connected, connected_memory, disconnect_verdict, disconnected}
 use Rattle.law.specs.Step.{proceeds}
 use Rattle.law.specs.Account.{Account, ConnectionNote, accepted, next_handle, mapping_noted, mapping_ended, noted_connection, connect_noted, disconnect_noted}
-use Rattle.law.specs.Keeps.{Owns, Writes, nth, In-slot, responses, host_pairing, noted_pairing, Counted, Pairing}
+use Rattle.law.specs.Keeps.{Owns, Writes, nth, InSlot, responses, host_pairing, noted_pairing, Counted, Pairing}
 use Rattle.law.proofs.Inv.{Inv, BooksOf, Links, Requests, BayHeld}
-use Rattle.law.proofs.Books.{Map-accepted, map-accepted, books_pinned, books_unpinned, owns_parts, next_handle_same}
+use Rattle.law.proofs.Books.{MapAccepted, map-accepted, books_pinned, books_unpinned, owns_parts, next_handle_same}
 use Rattle.law.proofs.Released.{released-handles}
 use Rattle.law.proofs.Links.{links_opened, links_closed, connection-noted, notes_size}
 use Rattle.law.proofs.Requested.{requests_opened, requests-closed}
@@ -76,7 +76,7 @@ module _ {M N : Type 0} (R : Rules M) (S : Rules N) (pick : ℕ → ℕ) (a : Ac
     mapped-ok : map_verdict H.frames H.grants 0 d reference 1 ≡ Ok g
     mapped-ok = passed_ok OfGrant (map_verdict H.frames H.grants 0 d reference 1) g fine.1
 
-    accepted-map : Map-accepted H.frames H.grants 0 d reference 1 g
+    accepted-map : MapAccepted H.frames H.grants 0 d reference 1 g
     accepted-map = map-accepted H.frames H.grants 0 d reference 1 g (omega arith) i.books.sound.handles_size mapped-ok
 
     -- the connection's number, and that it was free

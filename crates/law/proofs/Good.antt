@@ -17,7 +17,7 @@ use Rattle.law.specs.World.{World, with_memory}
 use Rattle.law.specs.Call.{Call, Next, domain, Reply}
 use Rattle.law.specs.Step.{Ends, step, told, passed_up, by_verdict}
 use Rattle.law.specs.Account.{Account, ConnectionNote, accepted, noted}
-use Rattle.law.specs.Keeps.{Step, Keeps, Owns, Maps, Writes, In-slot, nth, responses}
+use Rattle.law.specs.Keeps.{Step, Keeps, Owns, Maps, Writes, InSlot, nth, responses}
 use Rattle.law.proofs.Inv.{Inv}
 use Rattle.law.proofs.Books.{granted, pins-mappings, pins-counted}
 use Rattle.law.proofs.Requested.{answers_one, answers-once}
@@ -46,7 +46,7 @@ module _ {M N : Type 0} (R : Rules M) (S : Rules N) (pick : ℕ → ℕ) where
     pub alters : (f : ℕ) → f < w.host.frames.count → (Owns b (domain c) f → ⊥) → (Writes a (domain c) f → ⊥)
         → frame_bytes f e.world.memory ≡ frame_bytes f w.memory
     pub response : (k j : ℕ) (n : ConnectionNote) (q : Request) → at b.connections k ≡ Some n
-        → responses a k ≤ j → j < length n.answered → nth n.requests (get_or n.answered j 0) ≡ Some q → In-slot n j q e.world.memory
+        → responses a k ≤ j → j < length n.answered → nth n.requests (get_or n.answered j 0) ≡ Some q → InSlot n j q e.world.memory
     pub unbroken : (x : DeviceFault) → e.answer.result ≡ Err (InRing (OfDevice x)) → ⊥
     pub pending : (d p : ℕ) → c ≡ Next d → e.answer.result ≡ Ok (Port p)
         → ((word w.host.events d ≡ 0) × (p ≡ 0)) ⊎ (bit (word w.host.events d) p ≡ 1)

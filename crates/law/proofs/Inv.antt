@@ -62,7 +62,7 @@ abbrev pub handle_uses : Rings → ℕ → ℕ
 handle_uses C h = count_by (ring_has h) C.connections + sum_by (segments_with h) C.jobs
 
 -- domain 0 has the ring page of the connection k mapped for writing
-pub record Page-mapped (hs : List (Option Mapping)) (k : Connection) : Type 0 where
+pub record PageMapped (hs : List (Option Mapping)) (k : Connection) : Type 0 where
   pub mapping : Mapping
   pub below : k.handle < 64
   pub there : at hs (key 0 k.handle) ≡ Some mapping
@@ -70,7 +70,7 @@ pub record Page-mapped (hs : List (Option Mapping)) (k : Connection) : Type 0 wh
   pub mode : mapping.mode ≡ Write
 
 -- domain 0 has the part p mapped under the handle h, in the mode that the direction wants
-pub record Segment-mapped (hs : List (Option Mapping)) (way : Direction) (h : ℕ) (p : Part) : Type 0 where
+pub record SegmentMapped (hs : List (Option Mapping)) (way : Direction) (h : ℕ) (p : Part) : Type 0 where
   pub mapping : Mapping
   pub below : h < 64
   pub there : at hs (key 0 h) ≡ Some mapping
@@ -83,7 +83,7 @@ abbrev pub no_part : Part
 no_part = record { start = 0; length = 0 }
 
 -- the job j under the ticket t: its connection is live, its ticket one of that connection's, its segments mapped
-pub record Job-held (hs : List (Option Mapping)) (C : Rings) (t : ℕ) (j : Job) : Type 0 where
+pub record JobHeld (hs : List (Option Mapping)) (C : Rings) (t : ℕ) (j : Job) : Type 0 where
   pub connection : Connection
   pub live : at C.connections j.connection ≡ Some connection
   pub kind : connection.kind ≡ j.kind
@@ -92,7 +92,7 @@ pub record Job-held (hs : List (Option Mapping)) (C : Rings) (t : ℕ) (j : Job)
   pub few : j.count ≤ 11
   pub handles_size : length j.handles ≡ 11
   pub parts_size : length j.parts ≡ 11
-  pub segments : (i : ℕ) → i < j.count → Segment-mapped hs j.direction (get_or j.handles i 0) (get_or j.parts i no_part)
+  pub segments : (i : ℕ) → i < j.count → SegmentMapped hs j.direction (get_or j.handles i 0) (get_or j.parts i no_part)
 
 -- connections and jobs: the host's are the account's, and domain 0's handles are theirs, each of one
 pub record Links (hs : List (Option Mapping)) (C : Rings) (conns : List (Option ConnectionNote)) (jobs : List (Option JobNote)) : Type 0 where
@@ -102,8 +102,8 @@ pub record Links (hs : List (Option Mapping)) (C : Rings) (conns : List (Option 
   pub jobs_same : map (option_map host_work) C.jobs ≡ map (option_map noted_work) jobs
   pub indices : (c : ℕ) (k : Connection) (n : ConnectionNote) → at C.connections c ≡ Some k → at conns c ≡ Some n → Counted k n
   pub own : (h : ℕ) → h < 64 → handle_uses C h ≡ cond (is_some (at hs (key 0 h))) 1 0
-  pub page : (c : ℕ) (k : Connection) → at C.connections c ≡ Some k → Page-mapped hs k
-  pub job : (t : ℕ) (j : Job) → at C.jobs t ≡ Some j → Job-held hs C t j
+  pub page : (c : ℕ) (k : Connection) → at C.connections c ≡ Some k → PageMapped hs k
+  pub job : (t : ℕ) (j : Job) → at C.jobs t ≡ Some j → JobHeld hs C t j
 
 -- how often the request number i of the connection c is answered or in hand
 abbrev pub job_has : ℕ → ℕ → Option JobNote → Bool
@@ -114,14 +114,14 @@ abbrev pub request_uses : List (Option JobNote) → ℕ → ConnectionNote → �
 request_uses jobs c n i = count_by (λ x. eqb x i) n.answered + count_by (job_has c i) jobs
 
 -- the request of a job, by its note
-pub record Request-held (j : Job) (x : JobNote) (n : ConnectionNote) : Type 0 where
+pub record RequestHeld (j : Job) (x : JobNote) (n : ConnectionNote) : Type 0 where
   pub request : Request
   pub there : nth n.requests x.index ≡ Some request
   pub id : id_of request ≡ j.id
   pub operation : operation_of request ≡ j.operation
 
 -- the order that the device was handed for the job
-pub record Order-held (t : ℕ) (j : Job) (x : JobNote) : Type 0 where
+pub record OrderHeld (t : ℕ) (j : Job) (x : JobNote) : Type 0 where
   pub ticket : x.order.ticket ≡ t
   pub direction : x.order.direction ≡ j.direction
   pub length : x.order.length ≡ sum_by (λ (p : Part). p.length) (parts_of j)
@@ -130,8 +130,8 @@ pub record Order-held (t : ℕ) (j : Job) (x : JobNote) : Type 0 where
 pub record Requests (held : List (Option Job)) (conns : List (Option ConnectionNote)) (jobs : List (Option JobNote)) : Type 0 where
   pub once : (c i : ℕ) (n : ConnectionNote) → at conns c ≡ Some n → request_uses jobs c n i ≡ cond (ltb i (length n.requests)) 1 0
   pub total : (c : ℕ) (n : ConnectionNote) → at conns c ≡ Some n → length n.requests ≡ length n.answered + count_by (on_connection c) jobs
-  pub request : (t : ℕ) (j : Job) (x : JobNote) (n : ConnectionNote) → at held t ≡ Some j → at jobs t ≡ Some x → at conns x.connection ≡ Some n → Request-held j x n
-  pub order : (t : ℕ) (j : Job) (x : JobNote) → at held t ≡ Some j → at jobs t ≡ Some x → Order-held t j x
+  pub request : (t : ℕ) (j : Job) (x : JobNote) (n : ConnectionNote) → at held t ≡ Some j → at jobs t ≡ Some x → at conns x.connection ≡ Some n → RequestHeld j x n
+  pub order : (t : ℕ) (j : Job) (x : JobNote) → at held t ≡ Some j → at jobs t ≡ Some x → OrderHeld t j x
 
 -- a device's orders in hand are those of its jobs
 abbrev pub BayHeld : {X : Type 0} → Rules X → X → Bay → List (Option JobNote) → Type 0

@@ -40,7 +40,7 @@ use Rattle.law.specs.World.{with_grants, with_rings}
 use Rattle.law.specs.Serve.{Outcome, responded, answered_now, handed_over, segments_mapped, spent, served_on, served}
 use Rattle.law.specs.Complete.{closed, broken_off, finished, completed_job, completed}
 use Rattle.law.proofs.Inv.{no_part}
-use Rattle.law.proofs.Altered.{Part-in}
+use Rattle.law.proofs.Altered.{PartIn}
 
 -- bytes of a frame, out of the frame's bytes
 in_frame : (m : List ℕ) (f offset n : ℕ) → offset + n ≤ 4096 → drop offset (take (offset + n) (frame_bytes f m)) ≡ bytes_at (4096 * f + offset) n m
@@ -91,7 +91,7 @@ look_from_frame busy k m m' size same =
     (word_from_frame m m' k.page ReqProd size same)
 
 -- the bytes of a part that lies in an equal frame
-part_from_frame : (p : Part) (f : ℕ) (m m' : List ℕ) → Part-in p f → frame_bytes f m' ≡ frame_bytes f m → bytes_in p m' ≡ bytes_in p m
+part_from_frame : (p : Part) (f : ℕ) (m m' : List ℕ) → PartIn p f → frame_bytes f m' ≡ frame_bytes f m → bytes_in p m' ≡ bytes_in p m
 part_from_frame p f m m' lies same =
     let offset : ℕ = lies.offset in
     let start : 4096 * f + offset ≡ p.start = sym lies.start in
@@ -107,7 +107,7 @@ and_then_same r' (Err f) next' next e h = ap (λ r. and_then r next') e
 
 -- drains read only the frames in which the parts lie
 pub drained_from_frames : {X : Type 0} (D : Rules X) (t at : ℕ) (ps : List Part) (x : X) (m m' : List ℕ) → length m' ≡ length m
-    → ((i : ℕ) → i < length ps → (f : ℕ) × (Part-in (get_or ps i no_part) f × (frame_bytes f m' ≡ frame_bytes f m)))
+    → ((i : ℕ) → i < length ps → (f : ℕ) × (PartIn (get_or ps i no_part) f × (frame_bytes f m' ≡ frame_bytes f m)))
     → (draining_parts D x t at ps m' ≡ draining_parts D x t at ps m) × (drained_parts D x t at ps m' ≡ drained_parts D x t at ps m)
 drained_from_frames D t at [] x m m' size lies = (refl, refl)
 drained_from_frames {X} D t at (p ∷ ps) x m m' size lies =
@@ -237,14 +237,14 @@ module _ {X : Type 0} (D : Rules X) (t : ℕ) (j : Job) (H : Tables) where
 
 -- the bytes of a job: inward nothing is read, outward the parts
 moved_same : {X : Type 0} (D : Rules X) (way : Direction) (t : ℕ) (ps : List Part) (x : X) (m m' : List ℕ) → length m' ≡ length m
-    → ((i : ℕ) → i < length ps → (f : ℕ) × (Part-in (get_or ps i no_part) f × (frame_bytes f m' ≡ frame_bytes f m)))
+    → ((i : ℕ) → i < length ps → (f : ℕ) × (PartIn (get_or ps i no_part) f × (frame_bytes f m' ≡ frame_bytes f m)))
     → (moving D way t ps m' x ≡ moving D way t ps m x) × (moved_device D way t ps m' x ≡ moved_device D way t ps m x)
 moved_same D Inward t ps x m m' size lies = (ap (λ n. filling_parts D x t 0 ps n) size, refl)
 moved_same D Outward t ps x m m' size lies = drained_from_frames D t 0 ps x m m' size lies
 
 -- complete learns nothing but what the job's parts hold
 pub completed_learns : {X : Type 0} (D : Rules X) (b : Bay) (H : Tables) (m m' : List ℕ) (x : X) → length m' ≡ length m
-    → ((t : ℕ) (j : Job) → job_at H.rings t ≡ Some j → (i : ℕ) → i < length (parts_of j) → (f : ℕ) × (Part-in (get_or (parts_of j) i no_part) f × (frame_bytes f m' ≡ frame_bytes f m)))
+    → ((t : ℕ) (j : Job) → job_at H.rings t ≡ Some j → (i : ℕ) → i < length (parts_of j) → (f : ℕ) × (PartIn (get_or (parts_of j) i no_part) f × (frame_bytes f m' ≡ frame_bytes f m)))
     → ((completed D b H m' x).answer ≡ (completed D b H m x).answer) × ((completed D b H m' x).device ≡ (completed D b H m x).device)
 unfolding completed
 completed_learns {X} D b H m m' x size lies =

@@ -34,7 +34,7 @@ use Rattle.law.specs.Account.{Account}
 use Rattle.law.specs.Keeps.{Owns, Maps}
 use Rattle.law.proofs.Inv.{Inv, no_part}
 use Rattle.law.proofs.Books.{owns_parts, maps_from, frame-owned}
-use Rattle.law.proofs.Altered.{Part-in}
+use Rattle.law.proofs.Altered.{PartIn}
 use Rattle.law.proofs.Learned.{bytes_from-frame, served_learns, completed_learns}
 use Rattle.law.proofs.Good.{Learns}
 use Rattle.law.proofs.Outcomes.{host_inv, page-written}
@@ -88,10 +88,10 @@ module _ {M N : Type 0} (R : Rules M) (S : Rules N) (pick : ℕ → ℕ) (a : Ac
       by (Err f) = (refl, refl, refl)
 
   -- the frames that a domain may look at are the same in both memories
-  abbrev Seen-same : Call → List ℕ → Type 0
-  Seen-same c m = (f : ℕ) → f < w.host.frames.count → Owns a (domain c) f ⊎ Maps a (domain c) f → frame_bytes f m ≡ frame_bytes f w.memory
+  abbrev SeenSame : Call → List ℕ → Type 0
+  SeenSame c m = (f : ℕ) → f < w.host.frames.count → Owns a (domain c) f ⊎ Maps a (domain c) f → frame_bytes f m ≡ frame_bytes f w.memory
 
-  load-alike : (d f o n : ℕ) (m : List ℕ) → Seen-same (Load d f o n) m → Alike (proceeds R S pick (with_memory m w) (Load d f o n)) (proceeds R S pick w (Load d f o n))
+  load-alike : (d f o n : ℕ) (m : List ℕ) → SeenSame (Load d f o n) m → Alike (proceeds R S pick (with_memory m w) (Load d f o n)) (proceeds R S pick w (Load d f o n))
   unfolding proceeds
   load-alike d f o n m same = by (refuse_first (access_rules w.host.frames (maps_frame w.host.grants d f) d f o n) (Ok tt)) refl
     where
@@ -111,7 +111,7 @@ module _ {M N : Type 0} (R : Rules M) (S : Rules N) (pick : ℕ → ℕ) (a : Ac
       by (Err e) q = (refl, refl, refl)
 
   -- serve reads the ring page, which domain 0 has mapped
-  serve-alike : (c : ℕ) (m : List ℕ) → length m ≡ length w.memory → Seen-same (Serve c) m → Alike (proceeds R S pick (with_memory m w) (Serve c)) (proceeds R S pick w (Serve c))
+  serve-alike : (c : ℕ) (m : List ℕ) → length m ≡ length w.memory → SeenSame (Serve c) m → Alike (proceeds R S pick (with_memory m w) (Serve c)) (proceeds R S pick w (Serve c))
   unfolding proceeds
   serve-alike c m size same = by (serving_bay (connection_at w.host.rings c))
     where
@@ -127,11 +127,11 @@ module _ {M N : Type 0} (R : Rules M) (S : Rules N) (pick : ℕ → ℕ) (a : Ac
       by NetBay = let l = served_learns S c w.host w.memory m w.bay1 size page in (ap (λ r. told (passed_up InRing (λ z. z) r)) l.0, refl, l.1)
 
   -- complete reads the segments of a job, which domain 0 has mapped
-  complete-alike : (b : ℕ) (m : List ℕ) → length m ≡ length w.memory → Seen-same (Complete b) m → Alike (proceeds R S pick (with_memory m w) (Complete b)) (proceeds R S pick w (Complete b))
+  complete-alike : (b : ℕ) (m : List ℕ) → length m ≡ length w.memory → SeenSame (Complete b) m → Alike (proceeds R S pick (with_memory m w) (Complete b)) (proceeds R S pick w (Complete b))
   unfolding proceeds
   complete-alike b m size same = by (refuse_first (bay_rules b) (Ok tt))
     where
-      parts : (t : ℕ) (j : Job) → at w.host.rings.jobs t ≡ Some j → (n : ℕ) → n < length (parts_of j) → (f : ℕ) × (Part-in (get_or (parts_of j) n no_part) f × (frame_bytes f m ≡ frame_bytes f w.memory))
+      parts : (t : ℕ) (j : Job) → at w.host.rings.jobs t ≡ Some j → (n : ℕ) → n < length (parts_of j) → (f : ℕ) × (PartIn (get_or (parts_of j) n no_part) f × (frame_bytes f m ≡ frame_bytes f w.memory))
       parts t j there n l =
           let h = host_inv R S a w i in
           let f = segment_facts a w.host w.memory h t j there n l in

@@ -20,7 +20,7 @@ use Rattle.backend.specs.Look.{consumed, consumed_on, next_index}
 use Rattle.backend.specs.Respond.{responded_rings}
 use Rattle.law.specs.Account.{ConnectionNote, JobNote, with_request, with_response}
 use Rattle.law.specs.Keeps.{Pairing, host_pairing, noted_pairing, host_work, noted_work, Counted}
-use Rattle.law.proofs.Inv.{Links, Page-mapped, Segment-mapped, Job-held, ring_has, segments_with, handle_uses, no_part}
+use Rattle.law.proofs.Inv.{Links, PageMapped, SegmentMapped, JobHeld, ring_has, segments_with, handle_uses, no_part}
 use Rattle.law.proofs.Tickets.{none_some, same_some, taken_inside, at_set, set_taken, at-replicate, mapped_too, same_places, same_some_ness, same_set, two_in_sum, free_ticket, ticket_range}
 
 -- the host's tables and the account's are taken or free at the same places
@@ -93,16 +93,16 @@ segment_uses j i l m =
     omega arith
 
 -- what is mapped stays mapped under other handles hs' that still have it
-page_kept : (hs hs' : List (Option Mapping)) (k : Connection) → (k.handle < 64 → at hs' (key 0 k.handle) ≡ at hs (key 0 k.handle)) → Page-mapped hs k → Page-mapped hs' k
+page_kept : (hs hs' : List (Option Mapping)) (k : Connection) → (k.handle < 64 → at hs' (key 0 k.handle) ≡ at hs (key 0 k.handle)) → PageMapped hs k → PageMapped hs' k
 page_kept hs hs' k same m = record { mapping = m.mapping; below = m.below; there = same m.below ∙ m.there; frame = m.frame; mode = m.mode }
 
-segment_kept : (hs hs' : List (Option Mapping)) (way : Direction) (h : ℕ) (p : Part) → (h < 64 → at hs' (key 0 h) ≡ at hs (key 0 h)) → Segment-mapped hs way h p → Segment-mapped hs' way h p
+segment_kept : (hs hs' : List (Option Mapping)) (way : Direction) (h : ℕ) (p : Part) → (h < 64 → at hs' (key 0 h) ≡ at hs (key 0 h)) → SegmentMapped hs way h p → SegmentMapped hs' way h p
 segment_kept hs hs' way h p same m =
     record { mapping = m.mapping; below = m.below; there = same m.below ∙ m.there; offset = m.offset; start = m.start; inside = m.inside; mode = m.mode }
 
 job_kept : (hs hs' : List (Option Mapping)) (C C' : Rings) (t : ℕ) (j : Job) (k : Connection) → at C'.connections j.connection ≡ Some k → k.kind ≡ j.kind
     → ((i : ℕ) → i < j.count → get_or j.handles i 0 < 64 → at hs' (key 0 (get_or j.handles i 0)) ≡ at hs (key 0 (get_or j.handles i 0)))
-    → Job-held hs C t j → Job-held hs' C' t j
+    → JobHeld hs C t j → JobHeld hs' C' t j
 job_kept hs hs' C C' t j k live kind same m = record {
   connection = k;
   live = live;
@@ -177,18 +177,18 @@ module _ (hs : List (Option Mapping)) (C : Rings) (conns : List (Option Connecti
       ]
 
   -- each ring page is mapped
-  opened-page : (d : ℕ) (m : Connection) → at (set C.connections c (Some k)) d ≡ Some m → Page-mapped opened m
+  opened-page : (d : ℕ) (m : Connection) → at (set C.connections c (Some k)) d ≡ Some m → PageMapped opened m
   opened-page d m e = elim (at_set C.connections c d (Some k) m e) [
     | inl a ↦
         let same : k ≡ m = let f = a.1 in cc in
         let inside : key 0 k.handle < length hs = omega arith in
-        subst (λ x. Page-mapped (set hs (key 0 k.handle) (Some p)) x) same
+        subst (λ x. PageMapped (set hs (key 0 k.handle) (Some p)) x) same
         (record { mapping = p; below = below; there = get_or-set_same hs (key 0 k.handle) (Some p) None inside; frame = frame; mode = mode })
     | inr a ↦ let g = L.page d m a.1 in page_kept hs (set hs (key 0 k.handle) (Some p)) m (λ l. opened-kept m.handle g.mapping g.there) g
   ]
 
   -- each job is held as before
-  opened-job : (t : ℕ) (j : Job) → at C.jobs t ≡ Some j → Job-held opened (with_connection c (Some k) C) t j
+  opened-job : (t : ℕ) (j : Job) → at C.jobs t ≡ Some j → JobHeld opened (with_connection c (Some k) C) t j
   opened-job t j e =
       let m = L.job t j e in
       let apart : j.connection ≡ c → ⊥ = λ q. none_some (at C.connections j.connection) m.connection (ap (λ v. at C.connections v) q ∙ free) m.live in
@@ -260,14 +260,14 @@ module _ (hs : List (Option Mapping)) (C : Rings) (conns : List (Option Connecti
       ]
 
   -- the other ring pages are mapped
-  closed-page : (d : ℕ) (m : Connection) → at (set C.connections c None) d ≡ Some m → Page-mapped closed m
+  closed-page : (d : ℕ) (m : Connection) → at (set C.connections c None) d ≡ Some m → PageMapped closed m
   closed-page d m e = elim (at_set C.connections c d None m e) [
     | inl a ↦ none_some None m refl a.1
     | inr a ↦ page_kept hs closed m (λ l. closed-kept m.handle (λ q. rings_apart hs C conns jobs L c d k m live a.1 a.0 (sym q))) (L.page d m a.1)
   ]
 
   -- each job is held as before
-  closed-job : (t : ℕ) (j : Job) → at C.jobs t ≡ Some j → Job-held closed (with_connection c None C) t j
+  closed-job : (t : ℕ) (j : Job) → at C.jobs t ≡ Some j → JobHeld closed (with_connection c None C) t j
   closed-job t j e =
       let m = L.job t j e in
       let apart : j.connection ≡ c → ⊥ = not_waiting hs C conns jobs L c idle t j e in
@@ -300,20 +300,20 @@ module _ (hs : List (Option Mapping)) (C : Rings) (conns : List (Option Connecti
       omega (arith, L.own h l)
 
   -- its page stays mapped, and so do the others
-  recounted-page : (d : ℕ) (m : Connection) → at (set C.connections c (Some k')) d ≡ Some m → Page-mapped hs m
+  recounted-page : (d : ℕ) (m : Connection) → at (set C.connections c (Some k')) d ≡ Some m → PageMapped hs m
   recounted-page d m e = elim (at_set C.connections c d (Some k') m e) [
     | inl a ↦
         let g = L.page c k live in
         let now : k' ≡ m = let f = a.1 in cc in
         let page : k'.page ≡ k.page = ap (λ (p : Pairing). p.page) same in
         let handle : k'.handle ≡ k.handle = ap (λ (p : Pairing). p.handle) same in
-        subst (λ x. Page-mapped hs x) now
+        subst (λ x. PageMapped hs x) now
         (record { mapping = g.mapping; below = omega (arith, g.below); there = ap (λ h. at hs (key 0 h)) handle ∙ g.there; frame = g.frame ∙ sym page; mode = g.mode })
     | inr a ↦ L.page d m a.1
   ]
 
   -- each job is held as before
-  recounted-job : (t : ℕ) (j : Job) → at C.jobs t ≡ Some j → Job-held hs (with_connection c (Some k') C) t j
+  recounted-job : (t : ℕ) (j : Job) → at C.jobs t ≡ Some j → JobHeld hs (with_connection c (Some k') C) t j
   recounted-job t j e =
       let m = L.job t j e in
       elim (cases_eq j.connection c) [
@@ -386,7 +386,7 @@ module _ (hs hs' : List (Option Mapping)) (C : Rings) (conns : List (Option Conn
     (short : j.count ≤ 11) (handles_size : length j.handles ≡ 11) (parts_size : length j.parts ≡ 11)
     (uses : (h : ℕ) → h < 64 → cond {A = ℕ} (is_some (at hs' (key 0 h))) 1 0 ≡ cond {A = ℕ} (is_some (at hs (key 0 h))) 1 0 + count_by (λ y. eqb y h) (handles_of j))
     (kept : (h : ℕ) (p : Mapping) → h < 64 → at hs (key 0 h) ≡ Some p → at hs' (key 0 h) ≡ Some p)
-    (segments : (i : ℕ) → i < j.count → Segment-mapped hs' j.direction (get_or j.handles i 0) (get_or j.parts i no_part))
+    (segments : (i : ℕ) → i < j.count → SegmentMapped hs' j.direction (get_or j.handles i 0) (get_or j.parts i no_part))
     (L : Links hs C conns jobs) where
   -- the handles newly in use are the job's
   added-own : (h : ℕ) → h < 64 → handle_uses (with_job t (Some j) C) h ≡ cond (is_some (at hs' (key 0 h))) 1 0
@@ -396,11 +396,11 @@ module _ (hs hs' : List (Option Mapping)) (C : Rings) (conns : List (Option Conn
       omega (arith, L.own h l, uses h l)
 
   -- the new job is held, and the others as before
-  added-job : (u : ℕ) (i : Job) → at (set C.jobs t (Some j)) u ≡ Some i → Job-held hs' (with_job t (Some j) C) u i
+  added-job : (u : ℕ) (i : Job) → at (set C.jobs t (Some j)) u ≡ Some i → JobHeld hs' (with_job t (Some j) C) u i
   added-job u i e = elim (at_set C.jobs t u (Some j) i e) [
     | inl a ↦
         let now : j ≡ i = let f = a.1 in cc in
-        let here : Job-held hs' (with_job t (Some j) C) t j = record {
+        let here : JobHeld hs' (with_job t (Some j) C) t j = record {
           connection = k;
           live = live;
           kind = kind;
@@ -411,7 +411,7 @@ module _ (hs hs' : List (Option Mapping)) (C : Rings) (conns : List (Option Conn
           parts_size = parts_size;
           segments = segments;
         } in
-        subst (λ v. Job-held hs' (with_job t (Some j) C) v i) (sym a.0) (subst (λ v. Job-held hs' (with_job t (Some j) C) t v) now here)
+        subst (λ v. JobHeld hs' (with_job t (Some j) C) v i) (sym a.0) (subst (λ v. JobHeld hs' (with_job t (Some j) C) t v) now here)
     | inr a ↦
         let m = L.job u i a.1 in
         job_kept hs hs' C (with_job t (Some j) C) u i m.connection m.live m.kind
@@ -436,7 +436,7 @@ pub links_handed : (hs hs' : List (Option Mapping)) (C : Rings) (conns : List (O
     → j.connection ≡ c → j.kind ≡ k.kind → host_work j ≡ noted_work x → j.count ≤ 11 → length j.handles ≡ 11 → length j.parts ≡ 11
     → ((h : ℕ) → h < 64 → cond {A = ℕ} (is_some (at hs' (key 0 h))) 1 0 ≡ cond {A = ℕ} (is_some (at hs (key 0 h))) 1 0 + count_by (λ y. eqb y h) (handles_of j))
     → ((h : ℕ) (p : Mapping) → h < 64 → at hs (key 0 h) ≡ Some p → at hs' (key 0 h) ≡ Some p)
-    → ((i : ℕ) → i < j.count → Segment-mapped hs' j.direction (get_or j.handles i 0) (get_or j.parts i no_part))
+    → ((i : ℕ) → i < j.count → SegmentMapped hs' j.direction (get_or j.handles i 0) (get_or j.parts i no_part))
     → Links hs C conns jobs
     → Links hs' (with_job (next_ticket C.jobs c) (Some j) (consumed_on c k C)) (set conns c (Some (with_request q n))) (set jobs (next_ticket C.jobs c) (Some x))
 links_handed hs hs' C conns jobs c k n q j x e f two at_c kind work short handles_size parts_size uses kept segments L =
@@ -472,7 +472,7 @@ module _ (hs hs' : List (Option Mapping)) (C : Rings) (conns : List (Option Conn
       ]
 
   -- the handles of other jobs are not those of this one
-  gone-job : (u : ℕ) (i : Job) → at (set C.jobs t None) u ≡ Some i → Job-held hs' (with_job t None C) u i
+  gone-job : (u : ℕ) (i : Job) → at (set C.jobs t None) u ≡ Some i → JobHeld hs' (with_job t None C) u i
   gone-job u i e = elim (at_set C.jobs t u None i e) [
     | inl a ↦ none_some None i refl a.1
     | inr a ↦

@@ -28,12 +28,12 @@ first_same p q (o ∷ os) e =
     first_same_if (p o) (q o) o (first_of p os) (first_of q os) here (first_same p q os rest)
 
 -- the device x' has the orders in hand of x, and of them the same are ready
-pub record Same-hand {X : Type 0} (D : Rules X) (x x' : X) : Type 0 where
+pub record SameHand {X : Type 0} (D : Rules X) (x x' : X) : Type 0 where
   pub orders : D.orders x' ≡ D.orders x
   pub ready : map (D.is_ready x') (D.orders x) ≡ map (D.is_ready x) (D.orders x)
 
 -- so the turn is the same order's
-pub same_turn : {X : Type 0} (D : Rules X) (x x' : X) → Same-hand D x x' → next_order D x' ≡ next_order D x
+pub same_turn : {X : Type 0} (D : Rules X) (x x' : X) → SameHand D x x' → next_order D x' ≡ next_order D x
 same_turn D x x' h = ap (first_of (D.is_ready x')) h.orders ∙ first_same (D.is_ready x') (D.is_ready x) (D.orders x) h.ready
 
 -- a part that lies in the memory has its own length
@@ -57,13 +57,13 @@ module _ {X : Type 0} (D : Rules X) (laws : Laws D) (t : ℕ) where
       (ltb-false n (end_of p) h.0.0, h.1)
 
   -- one drain leaves what is in hand
-  drain-same : (x : X) (k : ℕ) (p : Part) (m : List ℕ) (o : Order) → handing D x t Outward k p (length m) ≡ Ok o → Same-hand D x (D.with_bytes x o k (bytes_in p m))
+  drain-same : (x : X) (k : ℕ) (p : Part) (m : List ℕ) (o : Order) → handing D x t Outward k p (length m) ≡ Ok o → SameHand D x (D.with_bytes x o k (bytes_in p m))
   drain-same x k p m o e =
       let h = handed_over x Outward k p (length m) o e in
       let served : serving D x t Outward (k + length (bytes_in p m)) ≡ Ok o = ap (λ n. serving D x t Outward (k + n)) (part_size p m h.0) ∙ h.1 in
       record { orders = laws.drain_orders x o t k (bytes_in p m) served; ready = laws.drain_ready x o t k (bytes_in p m) served }
 
-  same_then : (x y z : X) → Same-hand D x y → Same-hand D y z → Same-hand D x z
+  same_then : (x y z : X) → SameHand D x y → SameHand D y z → SameHand D x z
   same_then x y z h g =
       record {
         orders = g.orders ∙ h.orders;
@@ -71,10 +71,10 @@ module _ {X : Type 0} (D : Rules X) (laws : Laws D) (t : ℕ) where
       }
 
   -- and so do drains in turn, also where one of them is refused
-  pub drained_same : (k : ℕ) (ps : List Part) (m : List ℕ) (x : X) → Same-hand D x (drained_parts D x t k ps m)
+  pub drained_same : (k : ℕ) (ps : List Part) (m : List ℕ) (x : X) → SameHand D x (drained_parts D x t k ps m)
   drained_same k [] m x = record { orders = refl; ready = refl }
   drained_same k (p ∷ ps) m x =
-      by_verdict (Same-hand D x) (handing D x t Outward k p (length m)) x (λ o. drained_parts D (D.with_bytes x o k (bytes_in p m)) t (k + p.length) ps m)
+      by_verdict (SameHand D x) (handing D x t Outward k p (length m)) x (λ o. drained_parts D (D.with_bytes x o k (bytes_in p m)) t (k + p.length) ps m)
       (record { orders = refl; ready = refl })
       (λ o e. same_then x (D.with_bytes x o k (bytes_in p m)) _ (drain-same x k p m o e) (drained_same (k + p.length) ps m (D.with_bytes x o k (bytes_in p m))))
 
@@ -88,7 +88,7 @@ module _ {X : Type 0} (D : Rules X) (laws : Laws D) (t : ℕ) where
       ∙ overwritten-size p (D.bytes x o k p.length) m (handed_over x Inward k p (length m) o e).0 (laws.bytes_length x o k p.length))
 
   -- moving the bytes leaves what is in hand
-  pub moved_same : (way : Direction) (ps : List Part) (m : List ℕ) (x : X) → Same-hand D x (moved_device D way t ps m x)
+  pub moved_same : (way : Direction) (ps : List Part) (m : List ℕ) (x : X) → SameHand D x (moved_device D way t ps m x)
   moved_same Inward ps m x = record { orders = refl; ready = refl }
   moved_same Outward ps m x = drained_same 0 ps m x
 

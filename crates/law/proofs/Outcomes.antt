@@ -25,13 +25,13 @@ use Rattle.law.specs.Call.{Call, Next, domain}
 use Rattle.law.specs.Serve.{Outcome}
 use Rattle.law.specs.Step.{told, passed_up, by_bay0, by_bay1}
 use Rattle.law.specs.Account.{Account, ConnectionNote, MappingNote, accepted, noted}
-use Rattle.law.specs.Keeps.{Owns, Maps, Writes, In-slot, nth, responses, under_ticket, handed}
-use Rattle.law.proofs.Inv.{Inv, BooksOf, Links, Requests, BayHeld, Words, Page-mapped}
+use Rattle.law.specs.Keeps.{Owns, Maps, Writes, InSlot, nth, responses, under_ticket, handed}
+use Rattle.law.proofs.Inv.{Inv, BooksOf, Links, Requests, BayHeld, Words, PageMapped}
 use Rattle.law.proofs.Books.{in_force}
 use Rattle.law.proofs.Good.{Good, after, good_same}
 
 -- what the invariant says of host and memory alone
-pub record Host-inv (a : Account) (H : Tables) (m : List ℕ) : Type 0 where
+pub record HostInv (a : Account) (H : Tables) (m : List ℕ) : Type 0 where
   pub few : H.frames.count ≤ 256
   pub memory : length m ≡ 4096 * H.frames.count
   pub books : BooksOf H.frames H.grants a
@@ -39,11 +39,11 @@ pub record Host-inv (a : Account) (H : Tables) (m : List ℕ) : Type 0 where
   pub requests : Requests H.rings.jobs a.connections a.jobs
   pub words : Words H.events
 
-pub host_inv : {M N : Type 0} (R : Rules M) (S : Rules N) (a : Account) (w : World M N) → Inv R S a w → Host-inv a w.host w.memory
+pub host_inv : {M N : Type 0} (R : Rules M) (S : Rules N) (a : Account) (w : World M N) → Inv R S a w → HostInv a w.host w.memory
 host_inv R S a w i = record { few = i.few; memory = i.memory; books = i.books; links = i.links; requests = i.requests; words = i.words }
 
 -- domain 0 has a live connection's page mapped for writing, by the account
-pub page-written : (a : Account) (H : Tables) (m : List ℕ) → Host-inv a H m → (k : Connection) → Page-mapped H.grants.handles k → Writes a 0 k.page
+pub page-written : (a : Account) (H : Tables) (m : List ℕ) → HostInv a H m → (k : Connection) → PageMapped H.grants.handles k → Writes a 0 k.page
 page-written a H m i k p =
     let n = in_force H.frames H.grants a i.books (key 0 k.handle) p.mapping p.there in
     record {
@@ -53,15 +53,15 @@ page-written a H m i k p =
 
 module _ {X : Type 0} (D : Rules X) (b : Bay) (a : Account) (H : Tables) (m : List ℕ) (x : X) where
   -- b' is the account after the call
-  pub record Outcome-good (b' : Account) (o : Outcome X) : Type 0 where
-    pub inv : Host-inv b' o.host o.memory
+  pub record OutcomeGood (b' : Account) (o : Outcome X) : Type 0 where
+    pub inv : HostInv b' o.host o.memory
     pub count : o.host.frames.count ≡ H.frames.count
     pub bay : BayHeld D o.device b b'.jobs
     pub other : (c : Bay) → same_bay b c ≡ false → (t : ℕ) → handed c (at b'.jobs t) ≡ handed c (at a.jobs t)
     pub owners : b'.owners ≡ a.owners
     pub alters : (f : ℕ) → f < H.frames.count → (Writes a 0 f → ⊥) → frame_bytes f o.memory ≡ frame_bytes f m
     pub response : (k j : ℕ) (n : ConnectionNote) (q : Request) → at b'.connections k ≡ Some n
-        → responses a k ≤ j → j < length n.answered → nth n.requests (get_or n.answered j 0) ≡ Some q → In-slot n j q o.memory
+        → responses a k ≤ j → j < length n.answered → nth n.requests (get_or n.answered j 0) ≡ Some q → InSlot n j q o.memory
     pub unbroken : (e : DeviceFault) → o.answer ≡ Err (OfDevice e) → ⊥
 
 -- a fault of a device is passed up only where the layer of rings says so
@@ -78,7 +78,7 @@ ring_noted R S a c (Err z) m x y f e = refl
 
 module _ {M N : Type 0} (R : Rules M) (S : Rules N) (pick : ℕ → ℕ) (a : Account) (w : World M N) (i : Inv R S a w) (c : Call) (actor : domain c ≡ 0) (no-next : (d : ℕ) → c ≡ Next d → ⊥) where
   -- a good outcome in either bay is a good step
-  pub good_bay0 : (b : Account) (o : Outcome M) → Outcome-good R BlockBay a w.host w.memory w.bay0 b o → Good R S pick a b w c (by_bay0 w o)
+  pub good_bay0 : (b : Account) (o : Outcome M) → OutcomeGood R BlockBay a w.host w.memory w.bay0 b o → Good R S pick a b w c (by_bay0 w o)
   good_bay0 b o g = record {
     inv = record {
       few = g.inv.few;
@@ -98,7 +98,7 @@ module _ {M N : Type 0} (R : Rules M) (S : Rules N) (pick : ℕ → ℕ) (a : Ac
     pending = λ d p e z. absurd (no-next d e);
   }
 
-  pub good_bay1 : (b : Account) (o : Outcome N) → Outcome-good S NetBay a w.host w.memory w.bay1 b o → Good R S pick a b w c (by_bay1 w o)
+  pub good_bay1 : (b : Account) (o : Outcome N) → OutcomeGood S NetBay a w.host w.memory w.bay1 b o → Good R S pick a b w c (by_bay1 w o)
   good_bay1 b o g = record {
     inv = record {
       few = g.inv.few;

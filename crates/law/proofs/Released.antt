@@ -49,7 +49,7 @@ pub released-handles : (d h : ℕ) (G : Grants) → h < 64 → (released d h G).
 released-handles d h G l = rw (le-ltb 63 h (omega arith)) (handles-without d h G (at G.handles (key d h)) refl)
 
 -- the two accounts have the same frames, entries, connections and jobs
-pub record Only-mappings (a a' : Account) : Type 0 where
+pub record OnlyMappings (a a' : Account) : Type 0 where
   pub owners : a'.owners ≡ a.owners
   pub entries : a'.entries ≡ a.entries
   pub connections : a'.connections ≡ a.connections
@@ -69,11 +69,11 @@ ended_as k a o =
     })
 
 -- the end of a mapping leaves the rest of the account
-ended_as_rest : (k : ℕ) (a : Account) (o : Option MappingNote) → Only-mappings a (ended_as k a o)
+ended_as_rest : (k : ℕ) (a : Account) (o : Option MappingNote) → OnlyMappings a (ended_as k a o)
 ended_as_rest k a None = record { owners = refl; entries = refl; connections = refl; jobs = refl }
 ended_as_rest k a (Some n) = record { owners = refl; entries = refl; connections = refl; jobs = refl }
 
-pub ended_rest : (d h : ℕ) (a : Account) → Only-mappings a (mapping_ended d h a)
+pub ended_rest : (d h : ℕ) (a : Account) → OnlyMappings a (mapping_ended d h a)
 ended_rest d h a = ended_as_rest (key d h) a (at a.mappings (key d h))
 
 -- and frees its place among the mappings
@@ -85,7 +85,7 @@ pub ended_mappings : (d h : ℕ) (a : Account) → (mapping_ended d h a).mapping
 ended_mappings d h a = ended_as_mappings (key d h) a (at a.mappings (key d h)) refl
 
 -- a job's segments are unmapped
-pub record All-released (F : Frames) (G G' : Grants) (a a' : Account) (hs : List ℕ) : Type 0 where
+pub record AllReleased (F : Frames) (G G' : Grants) (a a' : Account) (hs : List ℕ) : Type 0 where
   pub books : BooksOf F G' a'
   pub connections : a'.connections ≡ a.connections
   pub jobs : a'.jobs ≡ a.jobs
@@ -114,7 +114,7 @@ freed_all F G a h hs l k f (suc i) b = elim (cases_eq (key 0 (get_or hs i 0)) (k
 
 -- in the tables and in the account
 pub segments_released : (F : Frames) (G : Grants) (a : Account) (hs : List ℕ) → BooksOf F G a → ((i : ℕ) → i < length hs → get_or hs i 0 < 64)
-    → All-released F G (released_all hs G) a (mappings_ended hs a) hs
+    → AllReleased F G (released_all hs G) a (mappings_ended hs a) hs
 segments_released F G a [] k l = record { books = k; connections = refl; jobs = refl; owners = refl; others = λ m n. refl; free = λ i b. absurd (omega arith) }
 segments_released F G a (h ∷ hs) k l =
     let r = segments_released F G a hs k (λ i b. l (suc i) (omega arith)) in

@@ -15,7 +15,7 @@ use Rattle.connection.specs.declared.tables.Job.{Job}
 use Rattle.connection.specs.declared.tables.Rings.{Rings}
 use Rattle.law.specs.Account.{ConnectionNote, JobNote, with_request, with_response}
 use Rattle.law.specs.Keeps.{nth, on_connection, Work}
-use Rattle.law.proofs.Inv.{Links, Requests, Request-held, Order-held, job_has, request_uses}
+use Rattle.law.proofs.Inv.{Links, Requests, RequestHeld, OrderHeld, job_has, request_uses}
 use Rattle.law.proofs.Tickets.{none_some, same_some, taken_inside, at_set, set_taken, at-replicate, free_or_taken, two_in_sum, none_pass, free_ticket, ticket_range}
 use Rattle.law.proofs.Links.{job-held_too, job_notes_size}
 
@@ -27,10 +27,10 @@ nth_last : {X : Type 0} (xs : List X) (y : X) → nth (xs ++ y ∷ []) (length x
 nth_last xs y = rw (map_push Some xs y) (get_or_push (map Some xs) (Some y) None (length xs) (length-map xs Some))
 
 -- a job's request stays where it is when another is put behind, and when a response is
-request_before : (j : Job) (x : JobNote) (n : ConnectionNote) (q : Request) → Request-held j x n → Request-held j x (with_request q n)
+request_before : (j : Job) (x : JobNote) (n : ConnectionNote) (q : Request) → RequestHeld j x n → RequestHeld j x (with_request q n)
 request_before j x n q r = record { request = r.request; there = nth_before n.requests q x.index r.request r.there; id = r.id; operation = r.operation }
 
-request_after : (j : Job) (x : JobNote) (n : ConnectionNote) (i : ℕ) → Request-held j x n → Request-held j x (with_response i n)
+request_after : (j : Job) (x : JobNote) (n : ConnectionNote) (i : ℕ) → RequestHeld j x n → RequestHeld j x (with_response i n)
 request_after j x n i r = record { request = r.request; there = r.there; id = r.id; operation = r.operation }
 
 -- what a job counts at its connection, and at others
@@ -77,12 +77,12 @@ module _ (held : List (Option Job)) (conns : List (Option ConnectionNote)) (jobs
   ]
 
   -- a job's request stays where its connection has all that it had
-  request-set : (old : ConnectionNote) → at conns c ≡ Some old → ((j : Job) (x : JobNote) → Request-held j x old → Request-held j x n)
-      → (t : ℕ) (j : Job) (x : JobNote) (m : ConnectionNote) → at held t ≡ Some j → at jobs t ≡ Some x → at (set conns c (Some n)) x.connection ≡ Some m → Request-held j x m
+  request-set : (old : ConnectionNote) → at conns c ≡ Some old → ((j : Job) (x : JobNote) → RequestHeld j x old → RequestHeld j x n)
+      → (t : ℕ) (j : Job) (x : JobNote) (m : ConnectionNote) → at held t ≡ Some j → at jobs t ≡ Some x → at (set conns c (Some n)) x.connection ≡ Some m → RequestHeld j x m
   request-set old e more t j x m f g h = elim (at_set conns c x.connection (Some n) m h) [
     | inl a ↦
         let now : n ≡ m = let b = a.1 in cc in
-        subst (λ v. Request-held j x v) now (more j x (Q.request t j x old f g (ap (λ v. at conns v) a.0 ∙ e)))
+        subst (λ v. RequestHeld j x v) now (more j x (Q.request t j x old f g (ap (λ v. at conns v) a.0 ∙ e)))
     | inr a ↦ Q.request t j x m f g a.1
   ]
 
@@ -241,10 +241,10 @@ module _ (hs : List (Option Mapping)) (C : Rings) (conns : List (Option Connecti
       rw more (omega (arith, new, Q.once c i n noted, one_below i (length n.requests)))
 
   -- the new job's request is the last
-  handed-request : (m : ConnectionNote) → at (set conns c (Some (with_request q n))) x.connection ≡ Some m → Request-held j x m
+  handed-request : (m : ConnectionNote) → at (set conns c (Some (with_request q n))) x.connection ≡ Some m → RequestHeld j x m
   handed-request m e =
       let now : with_request q n ≡ m = same_some (at (set conns c (Some (with_request q n))) c) (with_request q n) m (set_taken conns c (Some (with_request q n)) n noted) (rw of_c at e) in
-      subst (λ v. Request-held j x v) now
+      subst (λ v. RequestHeld j x v) now
       (record { request = q; there = ap (λ v. nth (n.requests ++ q ∷ []) v) index ∙ nth_last n.requests q; id = id; operation = operation })
 
   pub requests-handed : Requests (set C.jobs (next_ticket C.jobs c) (Some j)) (set conns c (Some (with_request q n))) (set jobs (next_ticket C.jobs c) (Some x))
@@ -259,8 +259,8 @@ module _ (hs : List (Option Mapping)) (C : Rings) (conns : List (Option Connecti
         | inl b ↦
             let same-job : j ≡ i = let h = a.1 in cc in
             let same-note : x ≡ y = let h = b.1 in cc in
-            subst (λ v. Request-held v y m) same-job
-            (subst (λ (v : JobNote). at (set conns c (Some (with_request q n))) v.connection ≡ Some m → Request-held j v m) same-note (handed-request m) g)
+            subst (λ v. RequestHeld v y m) same-job
+            (subst (λ (v : JobNote). at (set conns c (Some (with_request q n))) v.connection ≡ Some m → RequestHeld j v m) same-note (handed-request m) g)
         | inr b ↦ absurd (b.0 a.0)
       ]
       | inr a ↦ elim (at_set jobs new-ticket t (Some x) y f) [
@@ -273,7 +273,7 @@ module _ (hs : List (Option Mapping)) (C : Rings) (conns : List (Option Connecti
         | inl b ↦
             let same-job : j ≡ i = let h = a.1 in cc in
             let same-note : x ≡ y = let h = b.1 in cc in
-            subst (λ v. Order-held v i y) (sym a.0) (subst (λ v. Order-held new-ticket v y) same-job (subst (λ v. Order-held new-ticket j v) same-note
+            subst (λ v. OrderHeld v i y) (sym a.0) (subst (λ v. OrderHeld new-ticket v y) same-job (subst (λ v. OrderHeld new-ticket j v) same-note
             (record { ticket = ticket; direction = direction; length = size })))
         | inr b ↦ absurd (b.0 a.0)
       ]

@@ -17,8 +17,8 @@ use Rattle.connection.specs.Tables.{handles_of, parts_of}
 use Rattle.connection.specs.declared.tables.Job.{Job}
 use Rattle.backend.specs.Segments.{mode_for, part_in, with_segment, MappingDone, pin_all}
 use Rattle.law.specs.Account.{Account, mapping_noted, next_handle, spans_noted}
-use Rattle.law.proofs.Inv.{BooksOf, Segment-mapped, no_part}
-use Rattle.law.proofs.Books.{Map-accepted, map-accepted, books_pinned, next_handle_same}
+use Rattle.law.proofs.Inv.{BooksOf, SegmentMapped, no_part}
+use Rattle.law.proofs.Books.{MapAccepted, map-accepted, books_pinned, next_handle_same}
 use Rattle.law.proofs.Spans.{no_span}
 
 -- 1 where domain 0's handle h is in use
@@ -30,7 +30,7 @@ abbrev uses_in : Job → ℕ → ℕ
 uses_in j h = count_by (λ y. eqb y h) (handles_of j)
 
 -- every segment was mapped
-pub record All-pinned (F : Frames) (G G' : Grants) (a a' : Account) (i : ℕ) (j j' : Job) (ss : List Span) : Type 0 where
+pub record AllPinned (F : Frames) (G G' : Grants) (a a' : Account) (i : ℕ) (j j' : Job) (ss : List Span) : Type 0 where
   pub books : BooksOf F G' a'
   pub count : j'.count ≡ i + length ss
   pub connection : j'.connection ≡ j.connection
@@ -51,7 +51,7 @@ pub record All-pinned (F : Frames) (G G' : Grants) (a a' : Account) (i : ℕ) (j
   -- earlier segments stay in their places, new ones are mapped
   pub earlier : (n : ℕ) → n < i → (get_or j'.handles n 0 ≡ get_or j.handles n 0) × (get_or j'.parts n no_part ≡ get_or j.parts n no_part)
   pub segments : ((n : ℕ) → n < length ss → (get_or ss n no_span).start + (get_or ss n no_span).length ≤ 4096)
-      → (n : ℕ) → i ≤ n → n < i + length ss → Segment-mapped G'.handles j.direction (get_or j'.handles n 0) (get_or j'.parts n no_part)
+      → (n : ℕ) → i ≤ n → n < i + length ss → SegmentMapped G'.handles j.direction (get_or j'.handles n 0) (get_or j'.parts n no_part)
 
 -- what holds of both ways that a verdict may go holds of the one that it goes
 pub by_either : {T E Y : Type 0} (P : Y → Type 0) (r : Result T E) (f : T → Y) (g : E → Y)
@@ -64,7 +64,7 @@ module _ (F : Frames) (G : Grants) (a : Account) (guest i : ℕ) (j : Job) (s : 
     (books : BooksOf F G a) (count : j.count ≡ i) (few : i < 11) (handles_size : length j.handles ≡ 11) (parts_size : length j.parts ≡ 11)
     (ok : map_verdict F G 0 guest s.reference (mode_for j.direction) ≡ Ok g) where
   -- what the accepted map says
-  yes : Map-accepted F G 0 guest s.reference (mode_for j.direction) g
+  yes : MapAccepted F G 0 guest s.reference (mode_for j.direction) g
   yes = map-accepted F G 0 guest s.reference (mode_for j.direction) g (omega arith) books.sound.handles_size ok
 
   -- the account's next handle is the one granted
@@ -127,9 +127,9 @@ module _ (F : Frames) (G : Grants) (a : Account) (guest i : ℕ) (j : Job) (s : 
   more_bytes : sum_by (λ (p : Part). p.length) (parts_of next_job) ≡ sum_by (λ (p : Part). p.length) (parts_of j) + s.length
   more_bytes = ap (sum_by (λ (p : Part). p.length)) next-parts ∙ sum_by_push (λ (p : Part). p.length) (parts_of j) (part_in g.mapping.frame s)
 
-  module _ (G' : Grants) (a' : Account) (j' : Job) (ss : List Span) (r : All-pinned F next_grants G' next_account a' (i + 1) next_job j' ss) where
+  module _ (G' : Grants) (a' : Account) (j' : Job) (ss : List Span) (r : AllPinned F next_grants G' next_account a' (i + 1) next_job j' ss) where
     -- the segment number i is mapped
-    mapped-here : s.start + s.length ≤ 4096 → Segment-mapped G'.handles j.direction (get_or j'.handles i 0) (get_or j'.parts i no_part)
+    mapped-here : s.start + s.length ≤ 4096 → SegmentMapped G'.handles j.direction (get_or j'.handles i 0) (get_or j'.parts i no_part)
     mapped-here l =
         let e = r.earlier i (omega arith) in
         let h : get_or j'.handles i 0 ≡ g.handle = e.0 ∙ get_or-set_same j.handles i g.handle 0 (omega arith) in
@@ -146,14 +146,14 @@ module _ (F : Frames) (G : Grants) (a : Account) (guest i : ℕ) (j : Job) (s : 
 
     -- and so is each behind it
     more-segments : ((n : ℕ) → n < length (s ∷ ss) → (get_or (s ∷ ss) n no_span).start + (get_or (s ∷ ss) n no_span).length ≤ 4096)
-        → (n : ℕ) → i ≤ n → n < i + length (s ∷ ss) → Segment-mapped G'.handles j.direction (get_or j'.handles n 0) (get_or j'.parts n no_part)
+        → (n : ℕ) → i ≤ n → n < i + length (s ∷ ss) → SegmentMapped G'.handles j.direction (get_or j'.handles n 0) (get_or j'.parts n no_part)
     more-segments l n low high = elim (cases_eq n i) [
       | inl e ↦ rw e (mapped-here (l 0 (omega arith)))
       | inr d ↦ r.segments (λ m b. l (suc m) (omega arith)) n (omega arith) (omega arith)
     ]
 
     -- this segment and the rest together
-    pub one_more : All-pinned F G G' a a' i j j' (s ∷ ss)
+    pub one_more : AllPinned F G G' a a' i j j' (s ∷ ss)
     one_more = record {
       books = r.books;
       count = omega (arith, r.count);
@@ -181,7 +181,7 @@ module _ (F : Frames) (G : Grants) (a : Account) (guest i : ℕ) (j : Job) (s : 
 pub segments_pinned : (F : Frames) (G : Grants) (a : Account) (guest i : ℕ) (j : Job) (ss : List Span) (hs : List ℕ)
     → BooksOf F G a → j.count ≡ i → i + length ss ≤ 11 → length j.handles ≡ 11 → length j.parts ≡ 11 → hs ≡ handles_of j
     → (pin_all F guest i j G ss).fault ≡ None
-    → All-pinned F G (pin_all F guest i j G ss).grants a (spans_noted guest (mode_of (mode_for j.direction)) hs a ss).account i j (pin_all F guest i j G ss).job ss
+    → AllPinned F G (pin_all F guest i j G ss).grants a (spans_noted guest (mode_of (mode_for j.direction)) hs a ss).account i j (pin_all F guest i j G ss).job ss
     × ((spans_noted guest (mode_of (mode_for j.direction)) hs a ss).handles ≡ handles_of (pin_all F guest i j G ss).job)
 segments_pinned F G a guest i j [] hs b c few hl pl e f = (
   record {
@@ -208,7 +208,7 @@ segments_pinned F G a guest i j [] hs b c few hl pl e f = (
 segments_pinned F G a guest i j (s ∷ ss) hs b c few hl pl e f =
     by_either
     (λ (m : MappingDone). m.fault ≡ None
-    → All-pinned F G m.grants a (spans_noted guest (mode_of (mode_for j.direction)) hs a (s ∷ ss)).account i j m.job (s ∷ ss)
+    → AllPinned F G m.grants a (spans_noted guest (mode_of (mode_for j.direction)) hs a (s ∷ ss)).account i j m.job (s ∷ ss)
     × ((spans_noted guest (mode_of (mode_for j.direction)) hs a (s ∷ ss)).handles ≡ handles_of m.job))
     (map_verdict F G 0 guest s.reference (mode_for j.direction))
     _ _

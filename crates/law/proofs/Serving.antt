@@ -45,13 +45,13 @@ use Rattle.answer.specs.declared.reply.Answer.TheVariants.{Idle, HandedOver, Ans
 use Rattle.law.specs.World.{with_grants, with_events, with_rings}
 use Rattle.law.specs.Serve.{Outcome, responded, answered_now, handed_over, segments_mapped, spent, served_on, served}
 use Rattle.law.specs.Account.{Account, ConnectionNote, JobNote, SpansNoted, next_noted, with_request, with_response, answer_noted, job_noted, serve_noted, spans_noted, noted_connection, noted_job}
-use Rattle.law.specs.Keeps.{Writes, In-slot, nth, responses, handed, Pairing, host_pairing, noted_pairing, Work, host_work, noted_work}
-use Rattle.law.proofs.Inv.{BooksOf, Links, Requests, BayHeld, Words, Segment-mapped, no_part}
+use Rattle.law.specs.Keeps.{Writes, InSlot, nth, responses, handed, Pairing, host_pairing, noted_pairing, Work, host_work, noted_work}
+use Rattle.law.proofs.Inv.{BooksOf, Links, Requests, BayHeld, Words, SegmentMapped, no_part}
 use Rattle.law.proofs.Books.{frame-owned, owns_parts}
 use Rattle.law.proofs.Links.{connection-noted, job-held_too, next_ticket_same, links_answered, links_handed, job_notes_size}
 use Rattle.law.proofs.Requested.{requests-answered, requests-handed}
 use Rattle.law.proofs.Tickets.{at_set, set_taken, taken_inside, same_some, none_some, free_ticket, ticket_range, free_or_taken}
-use Rattle.law.proofs.Segments.{All-pinned, segments_pinned}
+use Rattle.law.proofs.Segments.{AllPinned, segments_pinned}
 use Rattle.law.proofs.Undoing.{Undone, segments_refused, segments_undone}
 use Rattle.law.proofs.Spans.{no_span, checked-spans}
 use Rattle.law.proofs.Bytes.{put_size, put_others, page_there, responded-size, responded-others, response_stands, slot-shown, request_shown}
@@ -59,7 +59,7 @@ use Rattle.law.proofs.Marks.{responded_words}
 use Rattle.law.proofs.Bays.{under-accepted}
 use Rattle.law.proofs.Cases.{by_either, by_some, by_cond}
 use Rattle.law.proofs.Good.{no_response}
-use Rattle.law.proofs.Outcomes.{Host-inv, page-written, Outcome-good}
+use Rattle.law.proofs.Outcomes.{HostInv, page-written, OutcomeGood}
 
 -- the last of a list
 nth_push : {X : Type 0} (xs : List X) (y : X) → nth (xs ++ y ∷ []) (length xs) ≡ Some y
@@ -71,7 +71,7 @@ pub response_noted : (a : Account) (c : ℕ) (old new : ConnectionNote) (index :
     → nth new.requests index ≡ Some q₀ → k.rsp_prod ≡ shown (length old.answered) → 4096 * k.page + 4096 ≤ length m
     → (c' j : ℕ) (n : ConnectionNote) (q : Request) → at (set a.connections c (Some new)) c' ≡ Some n
     → responses a c' ≤ j → j < length n.answered → nth n.requests (get_or n.answered j 0) ≡ Some q
-    → In-slot n j q (responded_memory k (id_of q₀) (operation_of q₀) status m)
+    → InSlot n j q (responded_memory k (id_of q₀) (operation_of q₀) status m)
 response_noted a c old new index k q₀ status m there grown kind page asked-for indexed inside c' j n q e low high at-index =
     let m' = responded_memory k (id_of q₀) (operation_of q₀) status m in
     elim (at_set a.connections c c' (Some new) n e) [
@@ -154,9 +154,9 @@ some_is : {X : Type 0} (x y : X) → Some x ≡ Some y → x ≡ y
 some_is x y e = cc
 
 module _ {X : Type 0} (D : Rules X) (laws : Laws D) (b : Bay) (a : Account) (H : Tables) (m : List ℕ) (x : X)
-    (i : Host-inv a H m) (held : BayHeld D x b a.jobs) (c : ℕ) where
+    (i : HostInv a H m) (held : BayHeld D x b a.jobs) (c : ℕ) where
   -- nothing happened
-  pub outcome_same : (r : Result Answer RingFault) → ((e : DeviceFault) → r ≡ Err (OfDevice e) → ⊥) → Outcome-good D b a H m x a (record { answer = r; host = H; memory = m; device = x })
+  pub outcome_same : (r : Result Answer RingFault) → ((e : DeviceFault) → r ≡ Err (OfDevice e) → ⊥) → OutcomeGood D b a H m x a (record { answer = r; host = H; memory = m; device = x })
   outcome_same r u = record {
     inv = i;
     count = refl;
@@ -170,10 +170,10 @@ module _ {X : Type 0} (D : Rules X) (laws : Laws D) (b : Bay) (a : Account) (H :
 
   -- a good outcome, with the account that serve's answer makes
   abbrev pub Served : Outcome X → Type 0
-  Served o = Outcome-good D b a H m x (after_ok o.answer a (λ z. serve_noted c z m a)) o
+  Served o = OutcomeGood D b a H m x (after_ok o.answer a (λ z. serve_noted c z m a)) o
 
-  served-by : (z : Account) (o : Outcome X) → after_ok o.answer a (λ y. serve_noted c y m a) ≡ z → Outcome-good D b a H m x z o → Served o
-  served-by z o e g = subst (λ (y : Account). Outcome-good D b a H m x y o) (sym e) g
+  served-by : (z : Account) (o : Outcome X) → after_ok o.answer a (λ y. serve_noted c y m a) ≡ z → OutcomeGood D b a H m x z o → Served o
+  served-by z o e g = subst (λ (y : Account). OutcomeGood D b a H m x y o) (sym e) g
 
   module _ (k : Connection) (live : at H.rings.connections c ≡ Some k) where
     -- the connection's note
@@ -235,7 +235,7 @@ module _ {X : Type 0} (D : Rules X) (laws : Laws D) (b : Bay) (a : Account) (H :
     ]
 
     -- nothing to do: the guest is asked to tell
-    pub idle_good : Outcome-good D b a H m x a (record { answer = Ok Idle; host = H; memory = event_asked k m; device = x })
+    pub idle_good : OutcomeGood D b a H m x a (record { answer = Ok Idle; host = H; memory = event_asked k m; device = x })
     idle_good = record {
       inv = record { few = i.few; memory = put_size m k.page 4 (le 4 (next_index k.req_cons)) ∙ i.memory; books = i.books; links = i.links; requests = i.requests; words = i.words };
       count = refl;
@@ -255,7 +255,7 @@ module _ {X : Type 0} (D : Rules X) (laws : Laws D) (b : Bay) (a : Account) (H :
       abbrev memory-then : List ℕ
       memory-then = responded_memory (consumed k) (id_of taken) (operation_of taken) (status_of f.fault) m
 
-      pub answered_good : Outcome-good D b a H m x (answer_noted c note taken a) (answered_now D c (consumed k) taken f host-then m x)
+      pub answered_good : OutcomeGood D b a H m x (answer_noted c note taken a) (answered_now D c (consumed k) taken f host-then m x)
       answered_good = record {
         inv = record {
           few = i.few;
@@ -300,13 +300,13 @@ module _ {X : Type 0} (D : Rules X) (laws : Laws D) (b : Bay) (a : Account) (H :
       pinned = pin_all H.frames k.guest 0 fresh-job H.grants (spans_of taken)
 
       -- a map was refused
-      refused-good : (f : Miss) → pinned.fault ≡ Some f → Outcome-good D b a H m x (answer_noted c note taken a) (answered_now D c (consumed k) taken f (with_grants pinned.grants (with_rings (consumed_on c k H.rings) H)) m x)
+      refused-good : (f : Miss) → pinned.fault ≡ Some f → OutcomeGood D b a H m x (answer_noted c note taken a) (answered_now D c (consumed k) taken f (with_grants pinned.grants (with_rings (consumed_on c k H.rings) H)) m x)
       refused-good f e = answered_good pinned.grants (segments_refused H.frames H.grants a k.guest fresh-job (spans_of taken) f i.books refl good-spans.1 refl refl e) f
 
       -- every segment is mapped
       module _ (all : pinned.fault ≡ None) where
         -- the device refused
-        unaccepted-good : (f : Miss) → Outcome-good D b a H m x (answer_noted c note taken a) (answered_now D c (consumed k) taken f (with_grants (released_all (handles_of pinned.job) pinned.grants) (with_rings (consumed_on c k H.rings) H)) m x)
+        unaccepted-good : (f : Miss) → OutcomeGood D b a H m x (answer_noted c note taken a) (answered_now D c (consumed k) taken f (with_grants (released_all (handles_of pinned.job) pinned.grants) (with_rings (consumed_on c k H.rings) H)) m x)
         unaccepted-good f = answered_good (released_all (handles_of pinned.job) pinned.grants) (segments_undone H.frames H.grants a k.guest fresh-job (spans_of taken) i.books refl good-spans.1 refl refl all) f
 
         -- the device took the order: the job's ticket, and its note
@@ -327,7 +327,7 @@ module _ {X : Type 0} (D : Rules X) (laws : Laws D) (b : Bay) (a : Account) (H :
             ap (λ t. account-then t note.guest) (next_ticket_same H.grants.handles H.rings a.connections a.jobs i.links c)
             ∙ ap (account-then ticket) guest-same
 
-        both : All-pinned H.frames H.grants pinned.grants a (segments k.guest).account 0 fresh-job pinned.job (spans_of taken) × ((segments k.guest).handles ≡ handles_of pinned.job)
+        both : AllPinned H.frames H.grants pinned.grants a (segments k.guest).account 0 fresh-job pinned.job (spans_of taken) × ((segments k.guest).handles ≡ handles_of pinned.job)
         both = segments_pinned H.frames H.grants a k.guest 0 fresh-job (spans_of taken) [] i.books refl (let l : 0 + length (spans_of taken) ≤ 11 = omega (arith, good-spans.1) in l) refl refl refl all
 
         ticket_free : at H.rings.jobs ticket ≡ None
@@ -349,14 +349,14 @@ module _ {X : Type 0} (D : Rules X) (laws : Laws D) (b : Bay) (a : Account) (H :
         work-same = work_is _ _ _ _ _ _ _ _ both.0.connection (both.0.kind ∙ sym kind-same) both.0.id (sym both.1)
 
         handed-good : accepting D x (order_for ticket (asked taken)) ≡ Ok tt
-            → Outcome-good D b a H m x (account-then ticket k.guest)
+            → OutcomeGood D b a H m x (account-then ticket k.guest)
             (record { answer = Ok HandedOver; host = with_rings (with_job ticket (Some pinned.job) (consumed_on c k H.rings)) (with_grants pinned.grants (with_rings (consumed_on c k H.rings) H)); memory = m; device = D.with_order x (order_for ticket (asked taken)) })
         handed-good accepted =
             let p = both.0 in
             let uses : (h : ℕ) → h < 64 → cond {A = ℕ} (is_some (at pinned.grants.handles (key 0 h))) 1 0 ≡ cond {A = ℕ} (is_some (at H.grants.handles (key 0 h))) 1 0 + count_by (λ y. eqb y h) (handles_of pinned.job) = λ h l. omega (arith, p.uses h l) in
             let kept : (h : ℕ) (y : Mapping) → h < 64 → at H.grants.handles (key 0 h) ≡ Some y → at pinned.grants.handles (key 0 h) ≡ Some y = λ h y l e. p.kept (key 0 h) y e in
-            let mapped : (n : ℕ) → n < pinned.job.count → Segment-mapped pinned.grants.handles pinned.job.direction (get_or pinned.job.handles n 0) (get_or pinned.job.parts n no_part) =
-            λ n l. subst (λ (way : Direction). Segment-mapped pinned.grants.handles way (get_or pinned.job.handles n 0) (get_or pinned.job.parts n no_part)) (sym p.direction) (p.segments good-spans.2 n (omega arith) (omega (arith, p.count))) in
+            let mapped : (n : ℕ) → n < pinned.job.count → SegmentMapped pinned.grants.handles pinned.job.direction (get_or pinned.job.handles n 0) (get_or pinned.job.parts n no_part) =
+            λ n l. subst (λ (way : Direction). SegmentMapped pinned.grants.handles way (get_or pinned.job.handles n 0) (get_or pinned.job.parts n no_part)) (sym p.direction) (p.segments good-spans.2 n (omega arith) (omega (arith, p.count))) in
             let bytes : sum_by (λ (s : Span). s.length) (spans_of taken) ≡ sum_by (λ (y : Part). y.length) (parts_of pinned.job) = omega (arith, p.length_sum) in
             record {
               inv = record {

@@ -22,13 +22,13 @@ use Rattle.law.proofs.Released.{ended_rest, ended_mappings, segments_released}
 use Rattle.law.proofs.Segments.{by_either, next_is, next_job, next_grants, next_account, next_books, next_handles}
 
 -- the two accounts have the same frames, entries and mappings
-record Same-books (a b : Account) : Type 0 where
+record SameBooks (a b : Account) : Type 0 where
   owners : a.owners ≡ b.owners
   entries : a.entries ≡ b.entries
   mappings : a.mappings ≡ b.mappings
 
 -- they have them still after the same mapping ended
-same_after : (d h : ℕ) (a b : Account) → Same-books a b → Same-books (mapping_ended d h a) (mapping_ended d h b)
+same_after : (d h : ℕ) (a b : Account) → SameBooks a b → SameBooks (mapping_ended d h a) (mapping_ended d h b)
 same_after d h a b s =
     let x = ended_rest d h a in
     let y = ended_rest d h b in
@@ -39,7 +39,7 @@ same_after d h a b s =
     }
 
 -- after the mappings under a list of handles
-same_after_all : (hs : List ℕ) (a b : Account) → Same-books a b → Same-books (mappings_ended hs a) (mappings_ended hs b)
+same_after_all : (hs : List ℕ) (a b : Account) → SameBooks a b → SameBooks (mappings_ended hs a) (mappings_ended hs b)
 same_after_all [] a b s = s
 same_after_all (h ∷ hs) a b s = same_after 0 h (mappings_ended hs a) (mappings_ended hs b) (same_after_all hs a b s)
 
@@ -56,7 +56,7 @@ free_noted (Some n ∷ ms) zero e = absurd (let z : ◌≡◌ {A = ℕ} 0 1 = cc
 free_noted (x ∷ ms) (suc k) e = free_noted ms k e
 
 -- a mapping that begins under a free handle and ends leaves the account's mappings as they were
-noted_ended : (h o n : ℕ) (m : Mode) (a : Account) → at a.mappings (key 0 h) ≡ None → Same-books (mapping_ended 0 h (mapping_noted 0 h o n m a)) a
+noted_ended : (h o n : ℕ) (m : Mode) (a : Account) → at a.mappings (key 0 h) ≡ None → SameBooks (mapping_ended 0 h (mapping_noted 0 h o n m a)) a
 noted_ended h o n m a e =
     let b : Account = mapping_noted 0 h o n m a in
     let x = ended_rest 0 h b in
@@ -67,10 +67,10 @@ noted_ended h o n m a e =
     }
 
 -- the tables G and the account a came from an account b by mappings that began under these handles in turn
-record Pinned-on (F : Frames) (G : Grants) (a b : Account) (hs : List ℕ) : Type 0 where
+record PinnedOn (F : Frames) (G : Grants) (a b : Account) (hs : List ℕ) : Type 0 where
   books : BooksOf F G a
   below : (i : ℕ) → i < length hs → get_or hs i 0 < 64
-  back : Same-books (mappings_ended hs a) b
+  back : SameBooks (mappings_ended hs a) b
 
 -- nothing is left of the mappings that began
 pub record Undone (F : Frames) (G G' : Grants) (a : Account) : Type 0 where
@@ -78,7 +78,7 @@ pub record Undone (F : Frames) (G G' : Grants) (a : Account) : Type 0 where
   pub handles : G'.handles ≡ G.handles
 
 -- the handles are freed: the first account's books are those of the tables again
-undone : (F : Frames) (H G : Grants) (a b : Account) (hs : List ℕ) → BooksOf F H b → Pinned-on F G a b hs → Undone F H (released_all hs G) b
+undone : (F : Frames) (H G : Grants) (a b : Account) (hs : List ℕ) → BooksOf F H b → PinnedOn F G a b hs → Undone F H (released_all hs G) b
 undone F H G a b hs k p =
     let r = (segments_released F G a hs p.books p.below).books in
     let es = p.back.entries in
@@ -110,17 +110,17 @@ below_more (x ∷ hs) h l b (suc i) m = below_more hs h l (λ n c. b (suc n) (om
 
 module _ (F : Frames) (H : Grants) (b : Account) (guest : ℕ) (start : BooksOf F H b) where
   -- a segment more is mapped
-  pinned-more : (G : Grants) (a : Account) (i : ℕ) (j : Job) (s : Span) (g : Grant) → Pinned-on F G a b (handles_of j)
+  pinned-more : (G : Grants) (a : Account) (i : ℕ) (j : Job) (s : Span) (g : Grant) → PinnedOn F G a b (handles_of j)
       → (k : BooksOf F G a) (c : j.count ≡ i) (l : i < 11) (hl : length j.handles ≡ 11) (pl : length j.parts ≡ 11)
       → (ok : map_verdict F G 0 guest s.reference (mode_for j.direction) ≡ Ok g)
-      → Pinned-on F (next_grants F G a guest i j s g k c l hl pl ok) (next_account F G a guest i j s g k c l hl pl ok) b (handles_of (next_job F G a guest i j s g k c l hl pl ok))
+      → PinnedOn F (next_grants F G a guest i j s g k c l hl pl ok) (next_account F G a guest i j s g k c l hl pl ok) b (handles_of (next_job F G a guest i j s g k c l hl pl ok))
   pinned-more G a i j s g p k c l hl pl ok =
       let yes = map-accepted F G 0 guest s.reference (mode_for j.direction) g (omega arith) k.sound.handles_size ok in
       let free : at a.mappings (key 0 g.handle) ≡ None = free_noted a.mappings (key 0 g.handle) (sym (ap (λ hs. at hs (key 0 g.handle)) k.handles_same) ∙ yes.free) in
       let a1 : Account = mapping_noted 0 g.handle guest s.reference (mode_of (mode_for j.direction)) a in
       let e = next_is F G a guest i j s g k c l hl pl ok in
       let x = same_after_all (handles_of j) (mapping_ended 0 g.handle a1) a (noted_ended g.handle guest s.reference (mode_of (mode_for j.direction)) a free) in
-      let back : Same-books (mappings_ended (handles_of j ++ g.handle ∷ []) a1) b = rw (last_first (handles_of j) g.handle a1) (record {
+      let back : SameBooks (mappings_ended (handles_of j ++ g.handle ∷ []) a1) b = rw (last_first (handles_of j) g.handle a1) (record {
         owners = x.owners ∙ p.back.owners;
         entries = x.entries ∙ p.back.entries;
         mappings = x.mappings ∙ p.back.mappings;
@@ -128,7 +128,7 @@ module _ (F : Frames) (H : Grants) (b : Account) (guest : ℕ) (start : BooksOf 
       rw (next_handles F G a guest i j s g k c l hl pl ok) (record {
         books = next_books F G a guest i j s g k c l hl pl ok;
         below = below_more (handles_of j) g.handle yes.handle p.below;
-        back = subst (λ (h : ℕ). Same-books (mappings_ended (handles_of j ++ g.handle ∷ []) (mapping_noted 0 h guest s.reference (mode_of (mode_for j.direction)) a)) b) (sym e) back;
+        back = subst (λ (h : ℕ). SameBooks (mappings_ended (handles_of j ++ g.handle ∷ []) (mapping_noted 0 h guest s.reference (mode_of (mode_for j.direction)) a)) b) (sym e) back;
       })
 
   -- a refused map undoes those before it, and the handles of all undo them
@@ -136,7 +136,7 @@ module _ (F : Frames) (H : Grants) (b : Account) (guest : ℕ) (start : BooksOf 
   Undoes m = ((f : Miss) → m.fault ≡ Some f → Undone F H m.grants b) × (m.fault ≡ None → Undone F H (released_all (handles_of m.job) m.grants) b)
 
   -- whatever was mapped before, of the job's first handles
-  pins-undone : (G : Grants) (a : Account) (i : ℕ) (j : Job) (ss : List Span) → Pinned-on F G a b (handles_of j)
+  pins-undone : (G : Grants) (a : Account) (i : ℕ) (j : Job) (ss : List Span) → PinnedOn F G a b (handles_of j)
       → j.count ≡ i → i + length ss ≤ 11 → length j.handles ≡ 11 → length j.parts ≡ 11 → Undoes (pin_all F guest i j G ss)
   pins-undone G a i j [] p c few hl pl = ((λ f e. absurd (let z : ◌≡◌ {A = ℕ} 0 1 = cc in omega arith)), λ e. undone F H G a b (handles_of j) start p)
   pins-undone G a i j (s ∷ ss) p c few hl pl =
@@ -149,7 +149,7 @@ module _ (F : Frames) (H : Grants) (b : Account) (guest : ℕ) (start : BooksOf 
       (λ x no. ((λ f e. undone F H G a b (handles_of j) start p), λ e. absurd (let z : ◌≡◌ {A = ℕ} 0 1 = cc in omega arith)))
 
 -- with nothing mapped yet
-pinned-none : (F : Frames) (G : Grants) (a : Account) (j : Job) → BooksOf F G a → j.count ≡ 0 → Pinned-on F G a a (handles_of j)
+pinned-none : (F : Frames) (G : Grants) (a : Account) (j : Job) → BooksOf F G a → j.count ≡ 0 → PinnedOn F G a a (handles_of j)
 pinned-none F G a j k c = rw c (record { books = k; below = λ i l. absurd (omega arith); back = record { owners = refl; entries = refl; mappings = refl } })
 
 -- a refused map: those before it are unmapped again

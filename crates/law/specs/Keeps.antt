@@ -65,7 +65,7 @@ abbrev pub nth : {X : Type 0} → List X → ℕ → Option X
 nth xs k = at (map Some xs) k
 
 -- the slot of the response number j holds a response to the request q, with q's id
-pub record In-slot (n : ConnectionNote) (j : ℕ) (q : Request) (m : List ℕ) : Type 0 where
+pub record InSlot (n : ConnectionNote) (j : ℕ) (q : Request) (m : List ℕ) : Type 0 where
   pub status : ℤ
   pub stands : (let r : List ℕ = response_bytes n.kind (id_of q) (operation_of q) status in
       bytes_at (4096 * n.page + slot_start n.kind j) (length r) m ≡ r)
@@ -154,7 +154,7 @@ pub record Keeps {M N : Type 0} (R : Rules M) (S : Rules N) (pick : ℕ → ℕ)
   -- a response written by this call stands in its slot as the call ends, with that request's id
   pub response_in_slot : (c j : ℕ) (n : ConnectionNote) (q : Request) → at b.connections c ≡ Some n
       → responses a c ≤ j → j < length n.answered → nth n.requests (slice_index n.answered j) ≡ Some q
-      → In-slot n j q s.left.memory
+      → InSlot n j q s.left.memory
   -- no request is answered twice
   pub answered_once : (c i j : ℕ) (n : ConnectionNote) → at b.connections c ≡ Some n
       → i < length n.answered → j < length n.answered → slice_index n.answered i ≡ slice_index n.answered j → i ≡ j

@@ -5,7 +5,7 @@ use Rattle.answer.specs.declared.fault.HostFault.{HostFault}
 use Rattle.answer.specs.declared.reply.Answer.{Answer}
 use Rattle.answer.specs.declared.reply.Answer.TheVariants.{Length}
 use Rattle.backend.specs.declared.tables.Tables.{Tables}
-use Rattle.table_calls.specs.Parts.{heard, Granted-by, Untouched}
+use Rattle.table_calls.specs.Parts.{heard, GrantedBy, Untouched}
 
 module _ {T E : Type 0} (rules : List (Rule HostFault)) (g : E → HostFault) (verdict : Result T E) (answers : T → Answer)
     (H : Tables) (m : List ℕ) (tables-by : T → Tables) (memory-by : T → List ℕ) where
@@ -13,7 +13,7 @@ module _ {T E : Type 0} (rules : List (Rule HostFault)) (g : E → HostFault) (v
   pub granted : (t : T) (r : Result Answer HostFault) (H' : Tables) (m' : List ℕ)
       → Ok tt ≡ refuse_first {T = Unit} rules (Ok tt) → Ok t ≡ verdict
       → r ≡ Ok (answers t) → H' ≡ tables-by t → m' ≡ memory-by t
-      → Granted-by rules g verdict answers H m tables-by memory-by r H' m'
+      → GrantedBy rules g verdict answers H m tables-by memory-by r H' m'
   granted t r H' m' free ok answer tables memory =
       let v : Ok t ≡ heard rules g verdict = ap (passed g) ok ∙ ap (λ (a : Result Unit HostFault). and_then a (λ _. passed g verdict)) free in
       record {

@@ -24,7 +24,7 @@ abbrev pub heard : {T E : Type 0} → List (Rule HostFault) → (E → HostFault
 heard rules g verdict = and_then (refuse_first {T = Unit} rules (Ok tt)) (λ _. passed g verdict)
 
 -- the tables and the memory become what the verdict's grant makes of them, or stay
-pub record Granted-by {T E : Type 0} (rules : List (Rule HostFault)) (g : E → HostFault) (verdict : Result T E) (answers : T → Answer) (H : Tables) (m : List ℕ) (tables-by : T → Tables) (memory-by : T → List ℕ)
+pub record GrantedBy {T E : Type 0} (rules : List (Rule HostFault)) (g : E → HostFault) (verdict : Result T E) (answers : T → Answer) (H : Tables) (m : List ℕ) (tables-by : T → Tables) (memory-by : T → List ℕ)
     (r : Result Answer HostFault) (H' : Tables) (m' : List ℕ) : Type 0 where
   pub answer : r ≡ granting answers (heard rules g verdict)
   pub tables : H' ≡ after_ok (heard rules g verdict) H tables-by
@@ -45,7 +45,7 @@ Untouched (Ok a) before after = Unit {0}
 Untouched (Err e) before after = after ≡ before
 
 -- n bytes of a frame were copied into the front of the buffer, or the buffer left as it was
-pub record Front-loaded (H : Tables) (m : List ℕ) (d f offset n : ℕ) (buffer : List ℕ) (r : Result Answer HostFault) (buffer' : List ℕ) : Type 0 where
+pub record FrontLoaded (H : Tables) (m : List ℕ) (d f offset n : ℕ) (buffer : List ℕ) (r : Result Answer HostFault) (buffer' : List ℕ) : Type 0 where
   pub answer : r ≡ granting (λ _. Length n) (heard (guest_rules H m d) InFrame (load_verdict H d f offset n))
   pub filled : take n buffer' ≡ after_ok (heard (guest_rules H m d) InFrame (load_verdict H d f offset n)) (take n buffer) (λ _. bytes_at (4096 * f + offset) n m)
   pub rest : drop n buffer' ≡ drop n buffer

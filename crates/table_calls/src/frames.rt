@@ -9,7 +9,7 @@ ghost use Rattle.answer.specs.declared.fault.HostFault.TheVariants.{InFrame};
 ghost use Rattle.answer.specs.declared.reply.Answer.TheVariants.{Done, Length};
 ghost use Rattle.law.specs.World.{with_frames};
 ghost use Rattle.law.specs.Step.{guest_rules};
-ghost use Rattle.table_calls.specs.Parts.{heard, load_verdict, Granted-by, Loaded, Front-loaded};
+ghost use Rattle.table_calls.specs.Parts.{heard, load_verdict, GrantedBy, Loaded, FrontLoaded};
 
 use crate::callers::guest;
 use answer::{Answer, HostFault};
@@ -23,7 +23,7 @@ pub fn take(
     caller: u32,
     frame: u32,
 ) -> Result<Answer, HostFault>
-    ensures { Granted-by (guest_rules tables.old memory.old caller) InFrame (refuse_first {T = Unit} (take_rules tables.old.frames frame) (Ok tt)) (λ _. Done) tables.old memory.old (λ _. with_frames (with_owner frame (Just caller) tables.old.frames) tables.old) (λ _. zeroed frame memory.old) result tables.new memory.new }
+    ensures { GrantedBy (guest_rules tables.old memory.old caller) InFrame (refuse_first {T = Unit} (take_rules tables.old.frames frame) (Ok tt)) (λ _. Done) tables.old memory.old (λ _. with_frames (with_owner frame (Just caller) tables.old.frames) tables.old) (λ _. zeroed frame memory.old) result tables.new memory.new }
 {
     let domain = guest(tables, memory, caller)?;
     tables.frames.may_take(frame)?;
@@ -39,7 +39,7 @@ pub fn give(
     caller: u32,
     frame: u32,
 ) -> Result<Answer, HostFault>
-    ensures { Granted-by (guest_rules tables.old memory.now caller) InFrame (refuse_first {T = Unit} (give_rules tables.old.frames (pins tables.old.grants.records frame) caller frame) (Ok tt)) (λ _. Done) tables.old memory.now (λ _. with_frames (with_owner frame Nothing tables.old.frames) tables.old) (λ _. memory.now) result tables.new memory.now }
+    ensures { GrantedBy (guest_rules tables.old memory.now caller) InFrame (refuse_first {T = Unit} (give_rules tables.old.frames (pins tables.old.grants.records frame) caller frame) (Ok tt)) (λ _. Done) tables.old memory.now (λ _. with_frames (with_owner frame Nothing tables.old.frames) tables.old) (λ _. memory.now) result tables.new memory.now }
 {
     let domain = guest(tables, memory, caller)?;
     let pins = tables.grants.pins(frame);
@@ -93,7 +93,7 @@ pub fn load_front(
     length: u32,
     buffer: &mut [u8; FRAME_SIZE],
 ) -> Result<Answer, HostFault>
-    ensures { Front-loaded tables.now memory.now caller frame offset length buffer.old result buffer.new }
+    ensures { FrontLoaded tables.now memory.now caller frame offset length buffer.old result buffer.new }
 {
     may_load(tables, memory, caller, frame, offset, length as usize)?;
     read_part(memory, frame, offset, &mut buffer[0..length as usize])?;
@@ -109,7 +109,7 @@ pub fn store(
     offset: u32,
     bytes: &[u8],
 ) -> Result<Answer, HostFault>
-    ensures { Granted-by (guest_rules tables.now memory.old caller) InFrame (refuse_first {T = Unit} (access_rules tables.now.frames (writes_frame tables.now.grants caller frame) caller frame offset (length bytes.now)) (Ok tt)) (λ _. Length (length bytes.now)) tables.now memory.old (λ _. tables.now) (λ _. placed (4096 * frame + offset) bytes.now memory.old) result tables.now memory.new }
+    ensures { GrantedBy (guest_rules tables.now memory.old caller) InFrame (refuse_first {T = Unit} (access_rules tables.now.frames (writes_frame tables.now.grants caller frame) caller frame offset (length bytes.now)) (Ok tt)) (λ _. Length (length bytes.now)) tables.now memory.old (λ _. tables.now) (λ _. placed (4096 * frame + offset) bytes.now memory.old) result tables.now memory.new }
 {
     let domain = guest(tables, memory, caller)?;
     let held = tables.grants.writes_frame(domain, frame);

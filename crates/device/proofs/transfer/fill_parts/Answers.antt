@@ -1,7 +1,7 @@
 use Rattle.std.proofs.Common.{◌≡◌, ◌+◌, ◌<◌, length, get_or, drop, Err, sym, ap, ◌∙◌, subst, arith}
 use Rattle.std.proofs.lemmas.List.{at_drop_more, at_drop_all}
 use Rattle.std.proofs.lemmas.Result.{err_from_is_err_and}
-use Rattle.device.specs.Transfer.{filling_parts, filled_parts, Part-filled}
+use Rattle.device.specs.Transfer.{filling_parts, filled_parts, PartFilled}
 use Rattle.device.specs.declared.transfer.Part.{Part}
 use Rattle.device.proofs.InTurn.{fill_more, fill_refused}
 use Rattle.device.proofs.transfer.fill_parts.Goals as goal
@@ -22,7 +22,7 @@ returns-in_err-fill_part g c =
     let size : length xs ≡ length c.args.memory.now = omega arith in
     let fault = c.in_err-fill_part.field-0.0 in
     let exit = err_from_is_err_and c.from-residual.result c.from-residual.ensures.1 in
-    let call = subst (λ n. Part-filled R n t at p xs c.fill_part.result m₁ c.fill_part.new.memory) c.loop-part.invariant.0 c.fill_part.ensures in
+    let call = subst (λ n. PartFilled R n t at p xs c.fill_part.result m₁ c.fill_part.new.memory) c.loop-part.invariant.0 c.fill_part.ensures in
     let refused = fill_refused R t at p (drop (i + 1) parts) m m₁ xs c.fill_part.new.memory (length c.args.memory.now) c.fill_part.result fault size call c.in_err-fill_part.was in
     record {
       answer = exit.1 ∙ ap Err exit.2 ∙ sym (at_drop_more (λ ps. filling_parts R m t at ps (length c.args.memory.now)) parts i none here ∙ refused.0) ∙ c.loop-part.invariant.1;
@@ -44,7 +44,7 @@ loop-part-preserved g c =
     let p : Part = get_or parts i none in
     let here : i < length parts = omega arith in
     let size : length xs ≡ length c.args.memory.now = omega arith in
-    let call = subst (λ n. Part-filled R n t at p xs c.fill_part.result m₁ c.fill_part.new.memory) c.loop-part.invariant.0 c.fill_part.ensures in
+    let call = subst (λ n. PartFilled R n t at p xs c.fill_part.result m₁ c.fill_part.new.memory) c.loop-part.invariant.0 c.fill_part.ensures in
     let more = fill_more R t at p (drop (i + 1) parts) m m₁ xs c.fill_part.new.memory (length c.args.memory.now) c.fill_part.result size call c.in_ok-fill_part.was in (
       call.after,
       sym (at_drop_more (λ ps. filling_parts R m t at ps (length c.args.memory.now)) parts i none here ∙ more.0) ∙ c.loop-part.invariant.1,
