@@ -2,7 +2,8 @@
 use Rattle.std.specs.Prelude.{ℕ, ◌+◌, ◌%◌, ◌^◌, Bool, true, false, cond, List, [], ◌∷◌, Some, Ok, Result, ◌==◌}
 use Rattle.rules.specs.Refusal.{refuse_first, and_then}
 use Rattle.ringpage.specs.declared.slot.Request.{Request}
-use Rattle.ring.specs.Page.{word_in, put_in, offset_of, request_in}
+use Rattle.ring.specs.Page.{offset_of}
+use Rattle.ring.specs.Total.{word_or_zero, put_in, request_or_zeros}
 use Rattle.ring.specs.Producer.{ahead}
 use Rattle.ring.specs.declared.page.Word.TheVariants.{ReqProd, ReqEvent}
 use Rattle.ring.specs.declared.fault.RingFault.{RingFault}
@@ -20,12 +21,12 @@ next_index i = (i + 1) % 2 ^ 32
 -- back end is busy
 abbrev pub look : Bool → Connection → List ℕ → Result Bool RingFault
 look busy k m =
-    and_then (ahead k.kind k.req_cons k.rsp_prod (word_in m k.page ReqProd)) (λ n.
+    and_then (ahead k.kind k.req_cons k.rsp_prod (word_or_zero m k.page ReqProd)) (λ n.
     cond (n == 0) (Ok false) (refuse_first ((busy, Busy) ∷ []) (Ok true)))
 
 -- the request that is next
 abbrev pub next_request : Connection → List ℕ → Request
-next_request k m = request_in m k.page k.kind k.req_cons
+next_request k m = request_or_zeros m k.page k.kind k.req_cons
 
 -- the guest is asked to tell of its next request
 abbrev pub event_asked : Connection → List ℕ → List ℕ

@@ -5,7 +5,8 @@ use Rattle.abi.specs.Page.{slot_start}
 use Rattle.rules.specs.Refusal.{if_some}
 use Rattle.event.specs.Pending.{marked}
 use Rattle.event.specs.declared.pending.Events.{Events}
-use Rattle.ring.specs.Page.{word_in, put_in, offset_of}
+use Rattle.ring.specs.Page.{offset_of}
+use Rattle.ring.specs.Total.{word_or_zero, put_in}
 use Rattle.ring.specs.Response.{response_bytes}
 use Rattle.ring.specs.declared.page.Word.TheVariants.{RspProd, RspEvent}
 use Rattle.connection.specs.Tables.{connection_at, with_connection, with_rsp_prod}
@@ -28,7 +29,7 @@ responded_rings c k C = with_connection c (Some (with_rsp_prod (next_index k.rsp
 
 -- the guest's port becomes pending if the raised index is the one that the page, now m, asks to be told of
 abbrev pub responded_events : ℕ → Connection → List ℕ → Events → Events
-responded_events c k m E = cond (next_index k.rsp_prod == word_in m k.page RspEvent) (marked k.guest (port_of c) E) E
+responded_events c k m E = cond (next_index k.rsp_prod == word_or_zero m k.page RspEvent) (marked k.guest (port_of c) E) E
 
 -- a response on the connection c, if it is live: what holds afterwards
 pub record Responded (c id operation : ℕ) (status : ℤ) (C : Rings) (E : Events) (m : List ℕ) (C' : Rings) (E' : Events) (m' : List ℕ) : Type 0 where

@@ -1,5 +1,5 @@
 -- Domain 0 maps what a request names, and unmaps it again.
-use Rattle.std.specs.Prelude.{◌≡◌, ℕ, ◌+◌, ◌*◌, List, [], ◌∷◌, replicate, Some, None, Ok, Err, Option, Result, slice_set}
+use Rattle.std.specs.Prelude.{◌≡◌, ℕ, ◌+◌, ◌*◌, min, List, [], ◌∷◌, replicate, Some, None, Ok, Err, Option, Result, slice_set}
 use Rattle.rules.specs.Refusal.{either_of, granting, after_ok, if_some}
 use Rattle.frame.specs.declared.owners.Frames.{Frames}
 use Rattle.grant.specs.Map.{map_verdict}
@@ -29,9 +29,9 @@ abbrev pub released_all : List ℕ → Grants → Grants
 released_all [] G = G
 released_all (h ∷ hs) G = released 0 h (released_all hs G)
 
--- where a span of this frame lies in the memory
+-- where a span of this frame lies in the memory; a place that 32 bits do not count is past every host's memory
 abbrev pub part_in : ℕ → Span → Part
-part_in frame s = record { start = 4096 * frame + s.start; length = s.length }
+part_in frame s = record { start = min (4096 * frame + s.start) 4294967295; length = s.length }
 
 -- the job that a request of the connection c becomes, with nothing mapped yet
 abbrev pub job_for : ℕ → Kind → Asked → Job

@@ -5,7 +5,7 @@ ghost use Rattle.backend.specs.Look.{look, next_request, event_asked};
 
 use abi::advance;
 use connection::Connection;
-use ring::{RingFault, Word, ahead, copy_request, read_word, set_word};
+use ring::{RingFault, Word, ahead, put_word, request_or_zeros, word_or_zero};
 use ringpage::Request;
 
 /// Whether a request is next. The guest's index is looked at first, and a back end that is busy refuses only where
@@ -13,7 +13,7 @@ use ringpage::Request;
 pub fn look(connection: &Connection, memory: &[u8], busy: bool) -> Result<bool, RingFault>
     ensures { result ≡ look busy connection.now memory.now }
 {
-    let produced = read_word(memory, connection.page, Word::ReqProd);
+    let produced = word_or_zero(memory, connection.page, Word::ReqProd);
     let count = ahead(
         connection.kind,
         connection.req_cons,
@@ -34,7 +34,7 @@ pub fn next_request(connection: &Connection, memory: &[u8]) -> Request
     ensures { result ≡ next_request connection.now memory.now }
 {
     let index = connection.req_cons;
-    copy_request(memory, connection.page, connection.kind, index)
+    request_or_zeros(memory, connection.page, connection.kind, index)
 }
 
 /// Asks the guest to tell of its next request.
@@ -43,5 +43,5 @@ pub fn ask_event(connection: &Connection, memory: &mut [u8])
     ensures others { OthersKept connection.now.page memory.old memory.new }
 {
     let next = advance(connection.req_cons, 1);
-    set_word(memory, connection.page, Word::ReqEvent, next);
+    put_word(memory, connection.page, Word::ReqEvent, next);
 }

@@ -7,7 +7,7 @@ use abi::advance;
 use connection::Rings;
 use event::{Events, Port};
 use frame::Domain;
-use ring::{Reply, Word, read_word, set_word, write_response};
+use ring::{Reply, Word, put_response, put_word, word_or_zero};
 
 // The guest's port becomes pending. A number past the domains has no word to mark.
 fn tell(events: &mut Events, guest: u8, port: Port)
@@ -27,7 +27,7 @@ pub fn respond(rings: &mut Rings, events: &mut Events, memory: &mut [u8], number
     let Some(mut connection) = rings.connection(u32::from(number)) else {
         return;
     };
-    write_response(
+    put_response(
         memory,
         connection.page,
         connection.kind,
@@ -35,9 +35,9 @@ pub fn respond(rings: &mut Rings, events: &mut Events, memory: &mut [u8], number
         reply,
     );
     connection.rsp_prod = advance(connection.rsp_prod, 1);
-    set_word(memory, connection.page, Word::RspProd, connection.rsp_prod);
+    put_word(memory, connection.page, Word::RspProd, connection.rsp_prod);
     rings.open(u32::from(number), connection);
-    let awaited = read_word(memory, connection.page, Word::RspEvent);
+    let awaited = word_or_zero(memory, connection.page, Word::RspEvent);
     if connection.rsp_prod == awaited {
         tell(events, connection.guest, Port { number: number + 1 });
     }

@@ -58,12 +58,13 @@ fn mode_for(direction: Direction) -> u32
     }
 }
 
-// Where a span of this frame lies in the memory.
+// Where a span of this frame lies in the memory. A place that 32 bits do not count lies in no memory of a host.
 fn part_in(frame: u32, span: &Span) -> Part
     ensures { result ≡ part_in frame span.now }
 {
+    let start = FRAME_SIZE as u64 * u64::from(frame) + u64::from(span.start);
     Part {
-        start: FRAME_SIZE as u64 * u64::from(frame) + u64::from(span.start),
+        start: start.min(u64::from(u32::MAX)) as u32,
         length: span.length,
     }
 }

@@ -8,7 +8,7 @@ use crate::{Device, DeviceFault};
 /// A part of a memory.
 #[derive(Clone, Copy)]
 pub struct Part {
-    pub start: u64,
+    pub start: u32,
     pub length: u32,
 }
 
@@ -16,10 +16,7 @@ pub struct Part {
 fn end_within(size: usize, at: u32, part: Part) -> Result<usize, DeviceFault>
     ensures { result ≡ refuse_first (part_rules size at part) (Ok (end_of part)) }
 {
-    // No memory is so large that a part whose end wraps could lie inside it.
-    let Some(end) = (part.start as usize).checked_add(part.length as usize) else {
-        return Err(DeviceFault::NoFit);
-    };
+    let end = part.start as usize + part.length as usize;
     if end > size {
         return Err(DeviceFault::NoFit);
     }

@@ -13,7 +13,8 @@ use Rattle.rules.proofs.Refusals.{by_verdict}
 use Rattle.frame.specs.Memory.{bytes_at, placed, frame_bytes, zeroed, part_verdict}
 use Rattle.frame.specs.declared.fault.FrameFault.{FrameFault}
 use Rattle.frame.proofs.Placing.{placed_elsewhere, placed_in_frame, part_granted}
-use Rattle.ring.specs.Page.{put_in, request_in, offset_of}
+use Rattle.ring.specs.Page.{offset_of}
+use Rattle.ring.specs.Total.{put_in, request_or_zeros}
 use Rattle.ring.specs.Response.{response_bytes}
 use Rattle.ring.specs.declared.page.Word.TheVariants.{RspProd}
 use Rattle.connection.specs.declared.tables.Connection.{Connection}
@@ -143,5 +144,5 @@ slot-bytes m page kind start =
     after_ok (part_verdict (length m) page start (slot_size kind)) (replicate (slot_size kind) 0) (λ _. bytes_at (4096 * page + start) (slot_size kind) m)
 
 -- and so the same request
-pub request_shown : (m : List ℕ) (page : ℕ) (kind : Kind) (n : ℕ) → request_in m page kind (shown n) ≡ request_in m page kind n
+pub request_shown : (m : List ℕ) (page : ℕ) (kind : Kind) (n : ℕ) → request_or_zeros m page kind (shown n) ≡ request_or_zeros m page kind n
 request_shown m page kind n = ap (λ start. request_at kind 0 (slot-bytes m page kind start)) (slot-shown kind n)

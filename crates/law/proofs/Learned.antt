@@ -17,7 +17,8 @@ use Rattle.device.specs.declared.fault.DeviceFault.{DeviceFault}
 use Rattle.device.specs.declared.transfer.Part.{Part}
 use Rattle.ringpage.specs.Slot.{request_at}
 use Rattle.ringpage.specs.declared.slot.Request.{Request}
-use Rattle.ring.specs.Page.{word_in, offset_of, request_in}
+use Rattle.ring.specs.Page.{offset_of}
+use Rattle.ring.specs.Total.{word_or_zero, request_or_zeros}
 use Rattle.ring.specs.Producer.{ahead}
 use Rattle.ring.specs.declared.page.Word.{Word}
 use Rattle.ring.specs.declared.page.Word.TheVariants.{ReqProd, ReqEvent, RspProd, RspEvent}
@@ -67,7 +68,7 @@ word_inside RspProd = omega arith
 word_inside RspEvent = omega arith
 
 -- an equal page has equal words
-pub word_from_frame : (m m' : List ℕ) (page : ℕ) (w : Word) → length m' ≡ length m → frame_bytes page m' ≡ frame_bytes page m → word_in m' page w ≡ word_in m page w
+pub word_from_frame : (m m' : List ℕ) (page : ℕ) (w : Word) → length m' ≡ length m → frame_bytes page m' ≡ frame_bytes page m → word_or_zero m' page w ≡ word_or_zero m page w
 word_from_frame m m' page w size same =
     let cut : (l : List ℕ) → number 4 (offset_of w) (frame_bytes page l) ≡ number 4 (4096 * page + offset_of w) l = λ l. number_cut 4 (offset_of w) (4096 * page) 4096 l (word_inside w) in
     after_same (part_verdict (length m') page (offset_of w) 4) (part_verdict (length m) page (offset_of w) 4) 0
@@ -76,7 +77,7 @@ word_from_frame m m' page w size same =
     (λ t _. sym (cut m') ∙ ap (number 4 (offset_of w)) same ∙ cut m)
 
 -- and equal requests
-pub request_from_frame : (m m' : List ℕ) (page : ℕ) (kind : Kind) (i : ℕ) → length m' ≡ length m → frame_bytes page m' ≡ frame_bytes page m → request_in m' page kind i ≡ request_in m page kind i
+pub request_from_frame : (m m' : List ℕ) (page : ℕ) (kind : Kind) (i : ℕ) → length m' ≡ length m → frame_bytes page m' ≡ frame_bytes page m → request_or_zeros m' page kind i ≡ request_or_zeros m page kind i
 request_from_frame m m' page kind i size same =
     ap (request_at kind 0)
     (after_same (part_verdict (length m') page (slot_start kind i) (slot_size kind)) (part_verdict (length m) page (slot_start kind i) (slot_size kind)) (replicate (slot_size kind) 0)

@@ -5,7 +5,7 @@ use Rattle.std.proofs.lemmas.List.{get_or-set_same, get_or-set_other, set_past, 
 use Rattle.std.proofs.lemmas.Bool.{cases_eq, cases_lt, cases_Bool, eqb-true, eqb-false, cond-true, cond-false, cond_both}
 use Rattle.event.specs.Pending.{new_events, word, with_word, bit, marked_word, dropped_word, marked, dropped}
 use Rattle.event.specs.declared.pending.Events.{Events}
-use Rattle.ring.specs.Page.{word_in}
+use Rattle.ring.specs.Total.{word_or_zero}
 use Rattle.ring.specs.declared.page.Word.TheVariants.{RspEvent}
 use Rattle.connection.specs.declared.tables.Connection.{Connection}
 use Rattle.backend.specs.Look.{next_index}
@@ -48,7 +48,7 @@ words_start = λ d.
 -- a response leaves 32 bits
 pub responded_words : (E : Events) (c : ℕ) (k : Connection) (m : List ℕ) → c < 6 → Words E → Words (responded_events c k m E)
 responded_words E c k m lt words =
-    cond_both (eqb (next_index k.rsp_prod) (word_in m k.page RspEvent)) (marked k.guest (port_of c) E) E Words
+    cond_both (eqb (next_index k.rsp_prod) (word_or_zero m k.page RspEvent)) (marked k.guest (port_of c) E) E Words
     (λ _. marked_words E k.guest (port_of c) (omega arith) words)
     (λ _. words)
 

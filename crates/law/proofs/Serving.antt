@@ -19,7 +19,7 @@ use Rattle.grant.specs.Map.{mode_of}
 use Rattle.grant.specs.declared.tables.Mapping.{Mapping}
 use Rattle.grant.specs.declared.tables.Grants.{Grants}
 use Rattle.ringpage.specs.declared.slot.Request.{Request}
-use Rattle.ring.specs.Page.{request_in, word_in}
+use Rattle.ring.specs.Total.{request_or_zeros, word_or_zero}
 use Rattle.ring.specs.Producer.{ahead}
 use Rattle.ring.specs.Fault.{status_of}
 use Rattle.ring.specs.Response.{response_bytes}
@@ -144,11 +144,11 @@ looked_ring false n busy e q d r = refused_ring (eqb n 0) busy e q d r
 
 look_free : (busy : Bool) (k : Connection) (m : List ℕ) → look busy k m ≡ Ok true → busy ≡ false
 unfolding looked
-look_free busy k m e = looked_free (ltb (slots k.kind - distance k.rsp_prod k.req_cons) (distance k.req_cons (word_in m k.page ReqProd))) (distance k.req_cons (word_in m k.page ReqProd)) busy e
+look_free busy k m e = looked_free (ltb (slots k.kind - distance k.rsp_prod k.req_cons) (distance k.req_cons (word_or_zero m k.page ReqProd))) (distance k.req_cons (word_or_zero m k.page ReqProd)) busy e
 
 look_ring : (busy : Bool) (k : Connection) (m : List ℕ) (e : RingFault) → look busy k m ≡ Err e → (d : DeviceFault) → e ≡ OfDevice d → ⊥
 unfolding looked
-look_ring busy k m e q d r = looked_ring (ltb (slots k.kind - distance k.rsp_prod k.req_cons) (distance k.req_cons (word_in m k.page ReqProd))) (distance k.req_cons (word_in m k.page ReqProd)) busy e q d r
+look_ring busy k m e q d r = looked_ring (ltb (slots k.kind - distance k.rsp_prod k.req_cons) (distance k.req_cons (word_or_zero m k.page ReqProd))) (distance k.req_cons (word_or_zero m k.page ReqProd)) busy e q d r
 
 some_is : {X : Type 0} (x y : X) → Some x ≡ Some y → x ≡ y
 some_is x y e = cc
@@ -222,10 +222,10 @@ module _ {X : Type 0} (D : Rules X) (laws : Laws D) (b : Bay) (a : Account) (H :
     unfolding taken
     request-same =
         let counted = i.links.indices c k note live there in
-        ap (λ p. request_in m p note.kind (length note.requests)) page-same
-        ∙ ap (λ (kd : Kind). request_in m k.page kd (length note.requests)) kind-same
+        ap (λ p. request_or_zeros m p note.kind (length note.requests)) page-same
+        ∙ ap (λ (kd : Kind). request_or_zeros m k.page kd (length note.requests)) kind-same
         ∙ sym (request_shown m k.page k.kind (length note.requests))
-        ∙ ap (λ n. request_in m k.page k.kind n) (sym counted.consumed)
+        ∙ ap (λ n. request_or_zeros m k.page k.kind n) (sym counted.consumed)
 
     -- nothing but the page may change
     only-page : (m' : List ℕ) → ((g : ℕ) → (g ≡ k.page → ⊥) → frame_bytes g m' ≡ frame_bytes g m) → (f : ℕ) → (Writes a 0 f → ⊥) → frame_bytes f m' ≡ frame_bytes f m

@@ -16,7 +16,7 @@ use Rattle.grant.specs.declared.tables.Mapping.{Mapping}
 use Rattle.grant.specs.declared.tables.Mode.{Mode}
 use Rattle.grant.specs.declared.tables.Mode.TheVariants.{Write}
 use Rattle.ringpage.specs.declared.slot.Request.{Request}
-use Rattle.ring.specs.Page.{request_in}
+use Rattle.ring.specs.Total.{request_or_zeros}
 use Rattle.request.specs.Content.{asked, id_of, spans_of, direction_of}
 use Rattle.request.specs.declared.content.Span.{Span}
 use Rattle.connection.specs.Tables.{kind_numbered, next_ticket}
@@ -144,7 +144,7 @@ spans_noted guest mode hs a (s ∷ ss) =
 
 -- the request whose number is the count so far, as the memory has it
 abbrev pub next_noted : ConnectionNote → List ℕ → Request
-next_noted n m = request_in m n.page n.kind (length n.requests)
+next_noted n m = request_or_zeros m n.page n.kind (length n.requests)
 
 abbrev pub with_request : Request → ConnectionNote → ConnectionNote
 with_request q n = record { kind = n.kind; guest = n.guest; page = n.page; handle = n.handle; requests = n.requests ++ q ∷ []; answered = n.answered }

@@ -7,7 +7,8 @@ use Rattle.rules.specs.Refusal.{Rule, refuse_first, passed, if_some}
 use Rattle.grant.specs.Map.{Grant, map_verdict}
 use Rattle.grant.specs.Pin.{pin, released}
 use Rattle.event.specs.Pending.{dropped}
-use Rattle.ring.specs.Page.{put_in, fresh_header}
+use Rattle.ring.specs.Page.{fresh_header}
+use Rattle.ring.specs.Total.{put_in}
 use Rattle.ring.specs.declared.fault.RingFault.{RingFault}
 use Rattle.ring.specs.declared.fault.RingFault.TheVariants.{BadKind, NoConnection, NotLive, HasJobs, OfGrant}
 use Rattle.connection.specs.Tables.{kind_numbered, connection_at, free_connection, has_jobs, with_connection}

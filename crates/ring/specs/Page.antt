@@ -1,12 +1,13 @@
--- A ring page inside the memory, by its frame. A page that the memory does not have reads as zeros, and takes no write.
-use Rattle.std.specs.Prelude.{◌≡◌, ℕ, ◌+◌, ◌*◌, List, ◌++◌, length, replicate}
+-- A ring page inside the memory, by its frame.
+use Rattle.std.specs.Prelude.{◌≡◌, ℕ, ◌+◌, ◌*◌, List, ◌++◌, length, replicate, Result}
 use Rattle.layout.specs.Layout.{number, le, written}
 use Rattle.abi.specs.Page.{ring_header, slot_start, slot_size}
 use Rattle.abi.specs.declared.page.Kind.{Kind}
 use Rattle.ringpage.specs.Slot.{request_at}
 use Rattle.ringpage.specs.declared.slot.Request.{Request}
-use Rattle.rules.specs.Refusal.{after_ok}
-use Rattle.frame.specs.Memory.{part_verdict, bytes_at, placed, OthersKept}
+use Rattle.rules.specs.Refusal.{granting}
+use Rattle.frame.specs.Memory.{part_verdict}
+use Rattle.frame.specs.declared.fault.FrameFault.{FrameFault}
 use Rattle.ring.specs.declared.page.Word.{Word}
 use Rattle.ring.specs.declared.page.Word.TheVariants.{ReqProd, ReqEvent, RspProd, RspEvent}
 
@@ -18,26 +19,13 @@ offset_of RspProd = 8
 offset_of RspEvent = 12
 
 -- a word of the header
-abbrev pub word_in : List ℕ → ℕ → Word → ℕ
-word_in m page w = after_ok (part_verdict (length m) page (offset_of w) 4) 0 (λ _. number 4 (4096 * page + offset_of w) m)
+abbrev pub word_in : List ℕ → ℕ → Word → Result ℕ FrameFault
+word_in m page w = granting (λ _. number 4 (4096 * page + offset_of w) m) (part_verdict (length m) page (offset_of w) 4)
 
--- the bytes of the slot that an index uses, copied once
-abbrev pub slot_copy : List ℕ → ℕ → Kind → ℕ → List ℕ
-slot_copy m page kind i =
-    after_ok (part_verdict (length m) page (slot_start kind i) (slot_size kind)) (replicate (slot_size kind) 0) (λ _. bytes_at (4096 * page + slot_start kind i) (slot_size kind) m)
-
--- the request in that slot, as the copy has it
-abbrev pub request_in : List ℕ → ℕ → Kind → ℕ → Request
-request_in m page kind i = request_at kind 0 (slot_copy m page kind i)
-
--- m with bytes written into a page
-abbrev pub put_in : List ℕ → ℕ → ℕ → List ℕ → List ℕ
-put_in m page offset bs = after_ok (part_verdict (length m) page offset (length bs)) m (λ _. placed (4096 * page + offset) bs m)
-
--- bytes were written into a page, and every other frame is as it was
-pub record Put (m : List ℕ) (page offset : ℕ) (bs m' : List ℕ) : Type 0 where
-  pub after : m' ≡ put_in m page offset bs
-  pub others : OthersKept page m m'
+-- the request in the slot that an index uses
+abbrev pub request_in : List ℕ → ℕ → Kind → ℕ → Result Request FrameFault
+request_in m page kind i =
+    granting (λ _. request_at kind (4096 * page + slot_start kind i) m) (part_verdict (length m) page (slot_start kind i) (slot_size kind))
 
 -- a fresh header: 0, 1, 0, 1, and zeros up to the first slot
 abbrev pub fresh_header : List ℕ

@@ -1,12 +1,12 @@
 // Responses, into the slots that requests came from.
 ghost use Rattle.std.specs.Prelude.{◌≡◌};
 ghost use Rattle.abi.specs.Page.{slot_start};
-ghost use Rattle.ring.specs.Page.{Put};
+ghost use Rattle.frame.specs.Memory.{Written};
 ghost use Rattle.ring.specs.Response.{response_bytes};
 
-use crate::bytes::put;
 use abi::Kind;
 use blkif::BlockResponse;
+use frame::{FrameFault, write_part};
 use netif::{ReceiveResponse, SendResponse};
 
 /// What a response says: the request's id and operation, and what became of it.
@@ -18,8 +18,14 @@ pub struct Reply {
 }
 
 /// Writes the response into the slot that an index uses.
-pub fn write_response(memory: &mut [u8], page: u32, kind: Kind, index: u32, reply: Reply)
-    ensures { Put memory.old page (slot_start kind index) (response_bytes kind reply.id reply.operation reply.status) memory.new }
+pub fn write_response(
+    memory: &mut [u8],
+    page: u32,
+    kind: Kind,
+    index: u32,
+    reply: Reply,
+) -> Result<(), FrameFault>
+    ensures { Written memory.old page (slot_start kind index) (response_bytes kind reply.id reply.operation reply.status) result memory.new }
 {
     let start = kind.slot_start(index) as u32;
     let status = reply.status;
@@ -30,14 +36,14 @@ pub fn write_response(memory: &mut [u8], page: u32, kind: Kind, index: u32, repl
                 operation: reply.operation,
                 status,
             };
-            put(memory, page, start, &response.encode());
+            write_part(memory, page, start, &response.encode())
         }
         Kind::Send => {
             let response = SendResponse {
                 id: (reply.id & 0xffff) as u16,
                 status,
             };
-            put(memory, page, start, &response.encode());
+            write_part(memory, page, start, &response.encode())
         }
         Kind::Receive => {
             let response = ReceiveResponse {
@@ -46,7 +52,7 @@ pub fn write_response(memory: &mut [u8], page: u32, kind: Kind, index: u32, repl
                 flags: 0,
                 status,
             };
-            put(memory, page, start, &response.encode());
+            write_part(memory, page, start, &response.encode())
         }
     }
 }

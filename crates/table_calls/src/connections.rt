@@ -20,7 +20,7 @@ use connection::{Connection, kind_of};
 use event::{Events, Port};
 use frame::Domain;
 use grant::Granted;
-use ring::{RingFault, write_fresh_header};
+use ring::{RingFault, put_fresh_header};
 
 // Which kind of connection, under which number, and domain 0's mapping of the ring page.
 #[derive(Clone, Copy)]
@@ -75,7 +75,7 @@ pub fn connect(
     let offer = may_connect(tables, domain, kind, reference)?;
     let granted = offer.granted;
     tables.grants.pin(Domain { id: 0 }, granted);
-    write_fresh_header(memory, granted.mapping.frame);
+    put_fresh_header(memory, granted.mapping.frame);
     let connection = Connection {
         kind: offer.kind,
         guest: domain.id,

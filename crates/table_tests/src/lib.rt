@@ -1,8 +1,6 @@
-// Examples of frames, grants, events, rings, requests and back ends, worked out by hand.
+// Examples of frames, grants, events, rings and requests, worked out by hand.
 #![tactic(auto)]
 
-#[cfg(test)]
-mod backends;
 #[cfg(test)]
 mod events;
 #[cfg(test)]

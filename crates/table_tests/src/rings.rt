@@ -8,9 +8,9 @@ use std::test::Fail;
 
 // The header is 0, 1, 0, 1 in words of four bytes, and zeros up to byte 63; byte 64, the first slot's, stays.
 #[test]
-fn header(rt: HostRuntime) {
+fn header(rt: HostRuntime) -> Result<(), Fail> {
     let mut memory = [7u8; 8192];
-    write_fresh_header(&mut memory, 1);
+    assert!(rt; write_fresh_header(&mut memory, 1).is_ok());
     let places: [(usize, u8); 7] = [
         (4095, 7),
         (4096, 0),
@@ -23,13 +23,15 @@ fn header(rt: HostRuntime) {
     for (place, byte) in places {
         assert_eq!(rt; memory.get(place).copied(), Some(byte), "{}", place);
     }
-    set_word(&mut memory, 1, Word::RspProd, 0x0102_0304);
+    assert!(rt; set_word(&mut memory, 1, Word::RspProd, 0x0102_0304).is_ok());
     assert_eq!(rt; memory.get(4104).copied(), Some(4));
     assert_eq!(rt; memory.get(4107).copied(), Some(1));
-    assert_eq!(rt; read_word(&memory, 1, Word::RspProd), 0x0102_0304);
-    // a page past the memory takes no write and reads as zeros
-    set_word(&mut memory, 2, Word::ReqProd, 5);
-    assert_eq!(rt; read_word(&memory, 2, Word::ReqProd), 0);
+    match read_word(&memory, 1, Word::RspProd) {
+        Ok(word) => assert_eq!(rt; word, 0x0102_0304),
+        Err(_) => return Err(Fail::new("the word was not read")),
+    }
+    assert!(rt; read_word(&memory, 2, Word::ReqProd).is_err());
+    Ok(())
 }
 
 // Index 257 of a receive ring uses slot 1, which starts at byte 64 + 8 = 72 of the page, 4168 of the memory. Its request
@@ -40,7 +42,7 @@ fn request_and_response(rt: HostRuntime) -> Result<(), Fail> {
     let slot: [u8; 8] = [1, 2, 9, 9, 8, 9, 10, 11];
     assert!(rt; frame::write_part(&mut memory, 1, 72, &slot).is_ok());
     match copy_request(&memory, 1, Kind::Receive, 257) {
-        Request::OfReceive(request) => {
+        Ok(Request::OfReceive(request)) => {
             assert_eq!(rt; request.id, 0x0201);
             assert_eq!(rt; request.reference, 0x0b0a_0908);
         }
@@ -51,7 +53,7 @@ fn request_and_response(rt: HostRuntime) -> Result<(), Fail> {
         operation: 0,
         status: -2,
     };
-    write_response(&mut memory, 1, Kind::Receive, 257, reply);
+    assert!(rt; write_response(&mut memory, 1, Kind::Receive, 257, reply).is_ok());
     let mut response = [9u8; 10];
     assert!(rt; frame::read_part(&memory, 1, 71, &mut response).is_ok());
     assert_eq!(rt; response, [0, 1, 2, 0, 0, 0, 0, 254, 255, 0]);

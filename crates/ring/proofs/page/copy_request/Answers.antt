@@ -1,19 +1,32 @@
-use Rattle.std.proofs.Common.{ap}
+use Rattle.std.proofs.Common.{◌≡◌, ◌+◌, ◌*◌, refl, ap, arith}
+use Rattle.layout.proofs.Codec.{in_place}
+use Rattle.blkif.specs.Block.{block_request}
+use Rattle.netif.specs.Send.{send_request}
+use Rattle.netif.specs.Receive.{receive_request}
 use Rattle.ringpage.specs.declared.slot.Request.TheVariants.{OfBlock, OfSend, OfReceive}
-use Rattle.ring.proofs.Pages.{request_copied}
+use Rattle.ring.proofs.Pages.{request_read}
 use Rattle.ring.proofs.page.copy_request.Goals as goal
 
-pub returns-in-Block : goal.returns-in-Block
-returns-in-Block c =
-    request_copied c.args.kind _ c.args.memory.now c.copy.new.buffer c.args.page c.slot_start-start.result c.args.index _
-    c.in-Block.is c.slot_start-start.ensures.value c.copy.ensures (ap OfBlock c.decode.ensures.value)
+pub returns-in_ok-read_part : goal.returns-in_ok-read_part
+returns-in_ok-read_part c =
+    let m = c.args.memory.now in
+    let at = 4096 * c.args.page + c.slot_start-start.result in
+    let p = c.in_ok-read_part.ensures in
+    request_read c.args.kind _ m c.args.page c.slot_start-start.result c.args.index _ c.in-Block.is c.slot_start-start.ensures.value p.answer
+    (ap OfBlock (in_place block_request c.decode.result c.read_part.new.buffer m at 112 at (omega arith) refl p.filled c.decode.ensures.value))
 
-pub returns-in-Send : goal.returns-in-Send
-returns-in-Send c =
-    request_copied c.args.kind _ c.args.memory.now c.copy-in-Send.new.buffer c.args.page c.slot_start-start.result c.args.index _
-    c.in-Send.is c.slot_start-start.ensures.value c.copy-in-Send.ensures (ap OfSend c.decode-in-Send.ensures.value)
+pub returns-in_ok-read_part-2 : goal.returns-in_ok-read_part-2
+returns-in_ok-read_part-2 c =
+    let m = c.args.memory.now in
+    let at = 4096 * c.args.page + c.slot_start-start.result in
+    let p = c.in_ok-read_part-2.ensures in
+    request_read c.args.kind _ m c.args.page c.slot_start-start.result c.args.index _ c.in-Send.is c.slot_start-start.ensures.value p.answer
+    (ap OfSend (in_place send_request c.decode-in-Send.result c.read_part-in-Send.new.buffer m at 12 at (omega arith) refl p.filled c.decode-in-Send.ensures.value))
 
-pub returns-in-Receive : goal.returns-in-Receive
-returns-in-Receive c =
-    request_copied c.args.kind _ c.args.memory.now c.copy-in-Receive.new.buffer c.args.page c.slot_start-start.result c.args.index _
-    c.in-Receive.is c.slot_start-start.ensures.value c.copy-in-Receive.ensures (ap OfReceive c.decode-in-Receive.ensures.value)
+pub returns-in_ok-read_part-3 : goal.returns-in_ok-read_part-3
+returns-in_ok-read_part-3 c =
+    let m = c.args.memory.now in
+    let at = 4096 * c.args.page + c.slot_start-start.result in
+    let p = c.in_ok-read_part-3.ensures in
+    request_read c.args.kind _ m c.args.page c.slot_start-start.result c.args.index _ c.in-Receive.is c.slot_start-start.ensures.value p.answer
+    (ap OfReceive (in_place receive_request c.decode-in-Receive.result c.read_part-in-Receive.new.buffer m at 8 at (omega arith) refl p.filled c.decode-in-Receive.ensures.value))

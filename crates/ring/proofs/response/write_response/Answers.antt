@@ -5,7 +5,7 @@ use Rattle.layout.specs.Layout.{written}
 use Rattle.blkif.specs.Block.{block_response}
 use Rattle.netif.specs.Send.{send_response}
 use Rattle.netif.specs.Receive.{receive_response}
-use Rattle.ring.proofs.Pages.{response_put}
+use Rattle.ring.proofs.Pages.{response_written}
 use Rattle.ring.proofs.response.write_response.Goals as goal
 
 -- the bytes of each response, by its id and status
@@ -22,22 +22,22 @@ pub returns-in-Block : goal.returns-in-Block
 returns-in-Block c =
     let q = c.args.reply in
     let f : SFits w16 q.status = search rules in
-    response_put c.args.kind _ _ _ _ c.args.page c.slot_start-start.result c.args.index q.id q.operation q.status
+    response_written c.args.kind _ _ _ _ c.args.page c.slot_start-start.result c.args.index q.id q.operation q.status _
     c.in-Block.is c.slot_start-start.ensures.value
-    (c.encode.ensures.value ∙ ap (λ z. block_bytes q.operation z q.id) (to_z-of_z w16 q.status f)) c.put.ensures
+    (c.encode.ensures.value ∙ ap (λ z. block_bytes q.operation z q.id) (to_z-of_z w16 q.status f)) c.write_part.ensures
 
 pub returns-in-Send : goal.returns-in-Send
 returns-in-Send c =
     let q = c.args.reply in
     let f : SFits w16 q.status = search rules in
-    response_put c.args.kind _ _ _ _ c.args.page c.slot_start-start.result c.args.index q.id q.operation q.status
+    response_written c.args.kind _ _ _ _ c.args.page c.slot_start-start.result c.args.index q.id q.operation q.status _
     c.in-Send.is c.slot_start-start.ensures.value
-    (c.encode-in-Send.ensures.value ∙ ap (send_bytes (to_z w16 (of_z w16 q.status))) (and_mask q.id 16) ∙ ap (λ z. send_bytes z (q.id % 2 ^ 16)) (to_z-of_z w16 q.status f)) c.put-in-Send.ensures
+    (c.encode-in-Send.ensures.value ∙ ap (send_bytes (to_z w16 (of_z w16 q.status))) (and_mask q.id 16) ∙ ap (λ z. send_bytes z (q.id % 2 ^ 16)) (to_z-of_z w16 q.status f)) c.write_part-in-Send.ensures
 
 pub returns-in-Receive : goal.returns-in-Receive
 returns-in-Receive c =
     let q = c.args.reply in
     let f : SFits w16 q.status = search rules in
-    response_put c.args.kind _ _ _ _ c.args.page c.slot_start-start.result c.args.index q.id q.operation q.status
+    response_written c.args.kind _ _ _ _ c.args.page c.slot_start-start.result c.args.index q.id q.operation q.status _
     c.in-Receive.is c.slot_start-start.ensures.value
-    (c.encode-in-Receive.ensures.value ∙ ap (receive_bytes (to_z w16 (of_z w16 q.status))) (and_mask q.id 16) ∙ ap (λ z. receive_bytes z (q.id % 2 ^ 16)) (to_z-of_z w16 q.status f)) c.put-in-Receive.ensures
+    (c.encode-in-Receive.ensures.value ∙ ap (receive_bytes (to_z w16 (of_z w16 q.status))) (and_mask q.id 16) ∙ ap (λ z. receive_bytes z (q.id % 2 ^ 16)) (to_z-of_z w16 q.status f)) c.write_part-in-Receive.ensures

@@ -8,7 +8,7 @@ use frame::{Domain, Frames};
 use grant::Grants;
 use netif::ReceiveRequest;
 use request::{Checked, Miss, Parts, Span};
-use ring::{Reply, Word, read_word, set_word};
+use ring::{Reply, Word, put_word, word_or_zero};
 use ringpage::Request;
 use std::test::Fail;
 
@@ -117,7 +117,7 @@ fn responses(rt: HostRuntime) -> Result<(), Fail> {
     rings.open(2, connection);
     let mut events = Events::new();
     let mut memory = [0u8; 8192];
-    set_word(&mut memory, 1, Word::RspEvent, 5);
+    put_word(&mut memory, 1, Word::RspEvent, 5);
     let reply = Reply {
         id: 0x0201,
         operation: 0,
@@ -125,14 +125,14 @@ fn responses(rt: HostRuntime) -> Result<(), Fail> {
     };
     respond(&mut rings, &mut events, &mut memory, 2, reply);
     assert_eq!(rt; events.pick(three), Some(3));
-    assert_eq!(rt; read_word(&memory, 1, Word::RspProd), 5);
+    assert_eq!(rt; word_or_zero(&memory, 1, Word::RspProd), 5);
     let mut response = [9u8; 8];
     assert!(rt; frame::read_part(&memory, 1, 96, &mut response).is_ok());
     assert_eq!(rt; response, [1, 2, 0, 0, 0, 0, 60, 0]);
     events.drop_mark(three, port);
     respond(&mut rings, &mut events, &mut memory, 2, reply);
     assert_eq!(rt; events.pick(three), None);
-    assert_eq!(rt; read_word(&memory, 1, Word::RspProd), 6);
+    assert_eq!(rt; word_or_zero(&memory, 1, Word::RspProd), 6);
     Ok(())
 }
 
