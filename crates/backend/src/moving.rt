@@ -13,7 +13,7 @@ pub fn move_bytes<D: Device>(
     job: &Job,
     memory: &mut [u8],
 ) -> Result<(), DeviceFault>
-    ensures { Moved rules ticket job.now memory.old (meaning device.old) result memory.new (meaning device.new) }
+    ensures { Moved D.rules ticket job.now memory.old (D.meaning device.old) result memory.new (D.meaning device.new) }
 {
     let parts = front(&job.parts, job.count as usize);
     match job.direction {

@@ -34,7 +34,7 @@ pub fn fill_part<D: Device>(
     memory: &mut [u8],
     part: Part,
 ) -> Result<(), DeviceFault>
-    ensures { PartFilled rules (meaning device.old) ticket at part memory.old result (meaning device.new) memory.new }
+    ensures { PartFilled D.rules (D.meaning device.old) ticket at part memory.old result (D.meaning device.new) memory.new }
 {
     let end = end_within(memory.len(), at, part)?;
     device.fill(ticket, at, &mut memory[part.start as usize..end])
@@ -48,7 +48,7 @@ pub fn drain_part<D: Device>(
     memory: &[u8],
     part: Part,
 ) -> Result<(), DeviceFault>
-    ensures { PartDrained rules (meaning device.old) ticket at part memory.now result (meaning device.new) }
+    ensures { PartDrained D.rules (D.meaning device.old) ticket at part memory.now result (D.meaning device.new) }
 {
     let end = end_within(memory.len(), at, part)?;
     device.drain(ticket, at, &memory[part.start as usize..end])
@@ -62,7 +62,7 @@ pub fn fill_parts<D: Device>(
     memory: &mut [u8],
     parts: &[Part],
 ) -> Result<(), DeviceFault>
-    ensures { PartsFilled rules (meaning device.old) ticket at parts.now memory.old result (meaning device.new) memory.new }
+    ensures { PartsFilled D.rules (D.meaning device.old) ticket at parts.now memory.old result (D.meaning device.new) memory.new }
 {
     let mut next = at;
     for part in parts {
@@ -80,7 +80,7 @@ pub fn drain_parts<D: Device>(
     memory: &[u8],
     parts: &[Part],
 ) -> Result<(), DeviceFault>
-    ensures { PartsDrained rules (meaning device.old) ticket at parts.now memory.now result (meaning device.new) }
+    ensures { PartsDrained D.rules (D.meaning device.old) ticket at parts.now memory.now result (D.meaning device.new) }
 {
     let mut next = at;
     for part in parts {

@@ -27,9 +27,9 @@ pub(crate) enum Answer {
 
 /// Does the line to the device; `bytes` are filled by a fill, and are what a drain takes.
 pub(crate) fn act<D: Device>(device: &mut D, command: Command, bytes: &mut [u8]) -> Answer
-    ensures answer { result ≡ answer_to rules command (meaning device.old) bytes.old }
-    ensures device { meaning device.new ≡ device_after rules command (meaning device.old) bytes.old }
-    ensures bytes { bytes.new ≡ bytes_after rules command (meaning device.old) bytes.old }
+    ensures answer { result ≡ answer_to D.rules command (D.meaning device.old) bytes.old }
+    ensures device { D.meaning device.new ≡ device_after D.rules command (D.meaning device.old) bytes.old }
+    ensures bytes { bytes.new ≡ bytes_after D.rules command (D.meaning device.old) bytes.old }
 {
     match command {
         Command::Fits(direction, place, size) => Answer::Flag(device.fits(direction, place, size)),

@@ -15,7 +15,7 @@ pub fn complete<D: Device>(
     device: &mut D,
     bay: Bay,
 ) -> Result<Answer, RingFault>
-    ensures { Leaves (completed rules bay tables.old memory.old (meaning device.old)) result tables.new memory.new (meaning device.new) }
+    ensures { Leaves (completed D.rules bay tables.old memory.old (D.meaning device.old)) result tables.new memory.new (D.meaning device.new) }
 {
     let Some(ticket) = device.ready() else {
         return Ok(Answer::Idle);

@@ -51,7 +51,7 @@ fn hand_over<D: Device>(
     requires id { token.id ≡ id_of request.now }
     requires operation { token.operation ≡ operation_of request.now }
     requires ticket { ticket ≡ next_ticket tables.old.rings.jobs token.connection }
-    ensures { Leaves (segments_mapped rules token.connection (consumed connection.now) request.now (asked_by checked.now) tables.old memory.old (meaning device.old)) (Granting result) tables.new memory.new (meaning device.new) }
+    ensures { Leaves (segments_mapped D.rules token.connection (consumed connection.now) request.now (asked_by checked.now) tables.old memory.old (D.meaning device.old)) (Granting result) tables.new memory.new (D.meaning device.new) }
 {
     let mut job = job_for(token.connection, connection.kind, checked);
     if let Err(miss) = pin_segments(
@@ -93,7 +93,7 @@ fn spend<D: Device>(
     requires id { token.id ≡ id_of request.now }
     requires operation { token.operation ≡ operation_of request.now }
     requires ticket { ticket ≡ next_ticket tables.old.rings.jobs token.connection }
-    ensures { Leaves (spent rules token.connection (consumed connection.now) request.now tables.old memory.old (meaning device.old)) (Granting result) tables.new memory.new (meaning device.new) }
+    ensures { Leaves (spent D.rules token.connection (consumed connection.now) request.now tables.old memory.old (D.meaning device.old)) (Granting result) tables.new memory.new (D.meaning device.new) }
 {
     match check(request, device) {
         Ok(checked) => hand_over(
@@ -106,7 +106,7 @@ fn spend<D: Device>(
 // The ticket for a connection's next job, unless its back end is busy: the device is full, or has two jobs of it.
 fn free_ticket<D: Device>(device: &D, rings: &Rings, number: u8) -> Option<u8>
     requires { number < 6 }
-    ensures { result ≡ (if is_full rules (meaning device.now) || has_two_jobs rings.now.jobs number then Nothing else Just (next_ticket rings.now.jobs number)) }
+    ensures { result ≡ (if is_full D.rules (D.meaning device.now) || has_two_jobs rings.now.jobs number then Nothing else Just (next_ticket rings.now.jobs number)) }
 {
     if device.full() {
         return None;
@@ -124,7 +124,7 @@ fn serve_live<D: Device>(
 ) -> Result<Answer, RingFault>
     requires live { connection_at tables.old.rings number ≡ Just connection.now }
     requires within { number < 6 }
-    ensures { Leaves (served_on rules number connection.now tables.old memory.old (meaning device.old)) result tables.new memory.new (meaning device.new) }
+    ensures { Leaves (served_on D.rules number connection.now tables.old memory.old (D.meaning device.old)) result tables.new memory.new (D.meaning device.new) }
 {
     let ticket = free_ticket(device, &tables.rings, number);
     if !look(connection, memory, ticket.is_none())? {
@@ -146,7 +146,7 @@ pub fn serve<D: Device>(
     device: &mut D,
     number: u32,
 ) -> Result<Answer, RingFault>
-    ensures { Leaves (served rules number tables.old memory.old (meaning device.old)) result tables.new memory.new (meaning device.new) }
+    ensures { Leaves (served D.rules number tables.old memory.old (D.meaning device.old)) result tables.new memory.new (D.meaning device.new) }
 {
     let Some(connection) = tables.rings.connection(number) else {
         return Err(RingFault::NotLive);

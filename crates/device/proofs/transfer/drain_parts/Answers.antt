@@ -18,7 +18,7 @@ returns-in_err-drain_part g c =
     let none : Part = record { start = 0; length = 0 } in
     let here : i < length parts = omega arith in
     let fault = c.in_err-drain_part.field-0.0 in
-    let exit = err_from_is_err_and c.from-residual.result c.from-residual.ensures.1 in
+    let exit = err_from_is_err_and c.from_residual.result c.from_residual.ensures.1 in
     let refused = drain_refused R t at (get_or parts i none) (drop (i + 1) parts) m (g.D.Device.meaning c.drain_part.new.device) xs c.drain_part.result fault c.drain_part.ensures c.in_err-drain_part.was in
     record {
       answer = exit.1 ∙ ap Err exit.2 ∙ sym (at_drop_more (λ ps. draining_parts R m t at ps xs) parts i none here ∙ refused.0) ∙ c.loop-part.invariant.0;

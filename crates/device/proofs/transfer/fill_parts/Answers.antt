@@ -21,7 +21,7 @@ returns-in_err-fill_part g c =
     let here : i < length parts = omega arith in
     let size : length xs ≡ length c.args.memory.now = omega arith in
     let fault = c.in_err-fill_part.field-0.0 in
-    let exit = err_from_is_err_and c.from-residual.result c.from-residual.ensures.1 in
+    let exit = err_from_is_err_and c.from_residual.result c.from_residual.ensures.1 in
     let call = subst (λ n. PartFilled R n t at p xs c.fill_part.result m₁ c.fill_part.new.memory) c.loop-part.invariant.0 c.fill_part.ensures in
     let refused = fill_refused R t at p (drop (i + 1) parts) m m₁ xs c.fill_part.new.memory (length c.args.memory.now) c.fill_part.result fault size call c.in_err-fill_part.was in
     record {

@@ -27,7 +27,7 @@ returns-in_err-move_bytes g c =
     let j = c.in-Some-job.job.now in
     let e = c.in_err-move_bytes.field-0.0 in
     let moved = c.move_bytes.ensures in
-    let p = err_from_is_err_and c.from-residual.result c.from-residual.ensures.1 in
+    let p = err_from_is_err_and c.from_residual.result c.from_residual.ensures.1 in
     leaves_by _ _ _ _ _ _
     (completed_by D c.args.bay t j H m x c.in-Some.ensures c.in-Some-job.ensures
     ∙ not_moved D t j H m x e (sym moved.answer ∙ c.in_err-move_bytes.was))
@@ -47,7 +47,7 @@ returns-in_err-status g c =
     let ends : Err e ≡ granting (D.status (device_moved D t j H m x)) (finishing D (device_moved D t j H m x) t) =
     sym c.in_err-status.was ∙ c.done.ensures.answer ∙ ap (λ y. granting (D.status y) (finishing D y t)) moved.device in
     let not_so = refused_some (finishing D (device_moved D t j H m x) t) (D.status (device_moved D t j H m x)) e ends in
-    let p = err_from_is_err_and c.from-residual-in_err-status.result c.from-residual-in_err-status.ensures.1 in
+    let p = err_from_is_err_and c.from_residual-in_err-status.result c.from_residual-in_err-status.ensures.1 in
     leaves_by _ _ _ _ _ _
     (completed_by D c.args.bay t j H m x c.in-Some.ensures c.in-Some-job.ensures ∙ not_ended D t j H m x tt e went not_so)
     (broken_leaves D e H _ _ _ _ _ (p.1 ∙ ap Err p.2) moved.memory

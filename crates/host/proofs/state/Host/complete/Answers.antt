@@ -15,7 +15,7 @@ pub returns-in_err-fitting : goal.returns-in_err-fitting
 returns-in_err-fitting g c =
     let b = g.B.Device in
     let n = g.N.Device in
-    let p = err_from_is_err_and c.from-residual.result c.from-residual.ensures.1 in
+    let p = err_from_is_err_and c.from_residual.result c.from_residual.ensures.1 in
     kept_refused b.rules n.rules b.laws n.laws _ _ _ _ (Complete c.args.bay) _ _ c.in_err-fitting.ensures.answer (p.1 ∙ ap Err p.2)
 
 pub returns-in-0 : goal.returns-in-0
