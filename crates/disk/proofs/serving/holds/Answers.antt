@@ -5,7 +5,7 @@ use Rattle.device.specs.Meaning.{in_hand}
 use Rattle.queue.specs.Line.{items}
 use Rattle.disk.proofs.Held.{hand_more, none_past}
 use Rattle.disk.proofs.serving.holds.Goals as goal
-use Rattle.disk.proofs.serving.holds.Goals.{in-Some+else-order-ticket, in-default}
+use Rattle.disk.proofs.serving.holds.Goals.{in-Some+else-order-ticket, in_default}
 
 pub loop-i-preserved : goal.loop-i-preserved
 loop-i-preserved c =
@@ -16,7 +16,7 @@ loop-i-preserved c =
       | in-Some+else-order-ticket w ↦
           let o = w.in-Some.order in
           sym (hand_more t i os o (sym c.get.ensures ∙ w.in-Some.is) ∙ ap (λ b. b || in_hand t (drop (i + 1) os)) (ne_eqb o.ticket t w.if-order-ticket.false)) ∙ c.loop-i.invariant
-      | in-default w ↦ absurd (let past = none_past os i (sym c.get.ensures ∙ w.in_default.is) in omega arith)
+      | in_default w ↦ absurd (let past = none_past os i (sym c.get.ensures ∙ w.in_default.is) in omega arith)
     ]
 
 pub returns-then-order-ticket : goal.returns-then-order-ticket

@@ -5,20 +5,19 @@ use Rattle.disk.specs.Fit.{all_within}
 use Rattle.disk.proofs.Held.{within_push, fits-within}
 use Rattle.disk.proofs.serving.DiskDevice.accept.Goals as goal
 
-pub invariant-of-self : goal.invariant-of-self
-invariant-of-self c =
+pub invariant_of-self : goal.invariant_of-self
+invariant_of-self c =
     let d = c.args.self.now in
     let o = c.args.order in
     let n = length d.sectors.bytes.now in
     let os = items d.orders in
     let p = c.push.ensures.pushed in
-    let fit = fits-within n o.place o.length (sym c.fits.ensures ∙ c.if-not-fits.false) in (
-      d.few,
-      (
-        ap (λ k. eqb n 0 || eqb k 4) p.size ∙ d.slots,
-        (ap (all_within n) p.holds ∙ cond_both (is_full d.orders) os (os ++ o ∷ []) (λ ys. all_within n ys ≡ true) (λ _. d.held) (λ _. within_push n os o d.held fit.0), tt),
-      ),
-    )
+    let fit = fits-within n o.place o.length (sym c.fits.ensures ∙ c.if-not-fits.false) in
+    record {
+      few = d.few;
+      slots = ap (λ k. eqb n 0 || eqb k 4) p.size ∙ d.slots;
+      held = ap (all_within n) p.holds ∙ cond_both (is_full d.orders) os (os ++ o ∷ []) (λ ys. all_within n ys ≡ true) (λ _. d.held) (λ _. within_push n os o d.held fit.0);
+    }
 
 pub returns-then-holds : goal.returns-then-holds
 returns-then-holds c = search rules

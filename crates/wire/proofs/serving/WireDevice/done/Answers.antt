@@ -18,10 +18,10 @@ finish-status-requires c =
     let next = turn_is_next (first_of ready os) c.args.ticket o (ap (λ f. on_turn f c.args.ticket) (sym c.next.ensures) ∙ sym c.on_turn.ensures ∙ c.in_ok-order.was) in
     (way_open (ltb 0 n) (ltb n (room_of w.packets)) o.direction (first_passes ready os o next), first_fits ready os o w.held next)
 
-pub invariant-of-self : goal.invariant-of-self
-invariant-of-self c =
+pub invariant_of-self : goal.invariant_of-self
+invariant_of-self c =
     let w = c.args.self.now in
-    (ap all_fit c.remove.ensures ∙ fit_others _ (orders_of w.hand) w.held, tt)
+    record { held = ap all_fit c.remove.ensures ∙ fit_others _ (orders_of w.hand) w.held }
 
 pub returns : goal.returns
 returns c = search rules
