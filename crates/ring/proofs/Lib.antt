@@ -1,2 +1,2 @@
 pub mod Pages
-pub mod Total
+pub mod Copied

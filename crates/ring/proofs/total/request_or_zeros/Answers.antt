@@ -1,6 +1,6 @@
 use Rattle.std.proofs.Common.{ap}
 use Rattle.ringpage.specs.declared.slot.Request.TheVariants.{OfBlock, OfSend, OfReceive}
-use Rattle.ring.proofs.Total.{request_copied}
+use Rattle.ring.proofs.Copied.{request_copied}
 use Rattle.ring.proofs.total.request_or_zeros.Goals as goal
 
 pub returns-in-Block : goal.returns-in-Block
