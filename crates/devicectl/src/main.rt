@@ -12,6 +12,7 @@ use failure::Failure;
 use lines::{Line, Start, parse};
 use std::alloc::Global;
 use std::env;
+use std::process::ExitCode;
 use wire::{Packet, Wire};
 
 const USAGE: &str = "usage: devicectl < SCRIPT
@@ -27,10 +28,6 @@ const SECTOR: usize = 512;
 
 // A disk of more sectors than this is refused, so no larger memory is needed to be refused.
 const TOO_MANY: u32 = 129;
-
-// What main ends with once the failure was printed.
-#[derive(Drop)]
-struct Failed;
 
 // The script so far: the line that was read last, and its number.
 #[derive(Drop)]
@@ -184,7 +181,7 @@ fn wants_usage(rt: &HostRuntime) -> Result<bool, Failure> {
     Ok(false)
 }
 
-fn main(rt: HostRuntime) -> Result<(), Failed> {
+fn main(rt: HostRuntime) -> ExitCode {
     let mut script = Script {
         text: String::new(rt.alloc()),
         number: 0,
@@ -198,14 +195,14 @@ fn main(rt: HostRuntime) -> Result<(), Failed> {
         Err(failure) => Err(failure),
     };
     match done {
-        Ok(()) => Ok(()),
+        Ok(()) => ExitCode::SUCCESS,
         Err(failure) => {
             let n = script.number;
             let _ = match n {
                 0 => eprintln!(rt; "devicectl: {failure}"),
                 _ => eprintln!(rt; "devicectl: line {n}: {failure}"),
             };
-            Err(Failed)
+            ExitCode::FAILURE
         }
     }
 }

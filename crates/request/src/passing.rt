@@ -23,7 +23,7 @@ pub struct Checked {
 
 /// Whether the request's own fields are in order and its order fits the device.
 pub fn check<D: Device>(request: &Request, device: &D) -> Result<Checked, Miss>
-    ensures { granting asked_by result ≡ check_verdict rules (meaning device.now) request.now }
+    ensures { granting asked_by result ≡ check_verdict D.rules (D.meaning device.now) request.now }
 {
     check_fields(request)?;
     let parts = parts_of(request);

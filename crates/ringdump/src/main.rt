@@ -8,15 +8,12 @@ use abi::{Kind, PAGE_SIZE};
 use arguments::{Command, parse};
 use failure::Failure;
 use listing::dump_page;
+use std::process::ExitCode;
 use std::{env, fs};
 
 const USAGE: &str = "usage: ringdump KIND FILE
 Prints the header of a ring page and every request on it that is not yet answered.
 KIND is block, send or receive; FILE holds one page of 4096 bytes.";
-
-// What main ends with once the failure was printed.
-#[derive(Drop)]
-struct Failed;
 
 fn list(rt: &HostRuntime, kind: Kind, path: &str) -> Result<(), Failure> {
     let bytes = match fs::read(rt, path) {
@@ -40,12 +37,12 @@ fn run(rt: &HostRuntime) -> Result<(), Failure> {
     }
 }
 
-fn main(rt: HostRuntime) -> Result<(), Failed> {
+fn main(rt: HostRuntime) -> ExitCode {
     match run(&rt) {
-        Ok(()) => Ok(()),
+        Ok(()) => ExitCode::SUCCESS,
         Err(failure) => {
             let _ = eprintln!(rt; "ringdump: {failure}");
-            Err(Failed)
+            ExitCode::FAILURE
         }
     }
 }

@@ -11,6 +11,7 @@ mod setup;
 use failure::Failure;
 use input::Script;
 use std::env;
+use std::process::ExitCode;
 
 const USAGE: &str = "usage: scanhost < SCRIPT
 Runs a host with a disk in bay 0 and the wire in bay 1 by the lines of a script, and prints each line with the four
@@ -34,10 +35,6 @@ load follow in hexadecimal.
   disconnect CONNECTION
 Numbers are decimal, bytes hexadecimal; a # begins a comment.";
 
-// What main ends with once the failure was printed.
-#[derive(Drop)]
-struct Failed;
-
 // Whether only the usage was asked for.
 fn wants_usage(rt: &HostRuntime) -> Result<bool, Failure> {
     for word in env::args(rt)?.skip(1) {
@@ -59,20 +56,20 @@ fn run(rt: &HostRuntime, script: &mut Script) -> Result<(), Failure> {
     }
 }
 
-fn main(rt: HostRuntime) -> Result<(), Failed> {
+fn main(rt: HostRuntime) -> ExitCode {
     let mut script = Script {
         text: String::new(rt.alloc()),
         number: 0,
     };
     match run(&rt, &mut script) {
-        Ok(()) => Ok(()),
+        Ok(()) => ExitCode::SUCCESS,
         Err(failure) => {
             let n = script.number;
             let _ = match n {
                 0 => eprintln!(rt; "scanhost: {failure}"),
                 _ => eprintln!(rt; "line {n}: {failure}"),
             };
-            Err(Failed)
+            ExitCode::FAILURE
         }
     }
 }
