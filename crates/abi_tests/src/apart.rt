@@ -1,6 +1,5 @@
 // The decoder built apart.
 use std::process::Abort;
-use std::test::Fail;
 
 /// A field: the byte where it starts, and how many bytes it has.
 pub(crate) type Field = (usize, usize);
@@ -37,19 +36,19 @@ fn inside(k: usize, fields: &[Field]) -> bool {
     false
 }
 
-/// What was written has each byte of `before` that lies in a field, and 0 elsewhere.
+/// What was written of the test message `which` has each byte of `before` that lies in a field, and 0 elsewhere.
 pub(crate) fn check_covered(
     rt: &impl Abort,
+    which: usize,
     before: &[u8],
     after: &[u8],
     fields: &[Field],
-) -> Result<(), Fail> {
-    assert_eq!(rt; before.len(), after.len());
+) {
+    assert_eq!(rt; before.len(), after.len(), "{which}");
     for (k, (b, a)) in before.iter().zip(after.iter()).enumerate() {
         let expected = if inside(k, fields) { *b } else { 0 };
-        assert_eq!(rt; *a, expected, "{}", k);
+        assert_eq!(rt; *a, expected, "{which}, byte {k}");
     }
-    Ok(())
 }
 
 /// The byte k of a test message: 0, 255, k + 1 or 255 - k, so that each byte is distinct; from 4 on, 255 in one field only.
