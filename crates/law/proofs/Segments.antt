@@ -1,8 +1,8 @@
 -- Domain 0 maps the segments of a request in turn, in the tables and in the account.
-use Rattle.std.proofs.Common.{◌≡◌, ℕ, suc, ◌+◌, ◌<◌, ◌≤◌, cond, eqb, List, [], ◌∷◌, ◌++◌, length, get_or, is_some, Some, None, Ok, Err, sum_by, count_by, Option, Result, unwrap_or, sym, refl, ap, ◌∙◌, subst, inl, inr, arith}
-use Rattle.std.proofs.lemmas.List.{length-set, get_or-set_same, get_or-set_other, take_more_set}
+use Rattle.std.proofs.Common.{◌≡◌, ℕ, suc, ◌+◌, ◌*◌, ◌<◌, ◌≤◌, cond, eqb, List, [], ◌∷◌, ◌++◌, length, get_or, is_some, Some, None, Ok, Err, sum_by, count_by, Option, Result, unwrap_or, sym, refl, ap, ◌∙◌, subst, inl, inr, arith}
+use Rattle.std.proofs.lemmas.List.{length-set, get_or-set_same, get_or-set_other, get_or_past, take_more_set}
 use Rattle.std.proofs.lemmas.List.Sums.{sum_by-cons, sum_by_push}
-use Rattle.std.proofs.lemmas.Bool.{cases_eq, eq-eqb, ne_eqb}
+use Rattle.std.proofs.lemmas.Bool.{cases_eq, cases_lt, eq-eqb, ne_eqb}
 use Rattle.rules.specs.Refusal.{either_of}
 use Rattle.rules.specs.Tables.{at}
 use Rattle.device.specs.declared.transfer.Part.{Part}
@@ -18,7 +18,7 @@ use Rattle.connection.specs.declared.tables.Job.{Job}
 use Rattle.backend.specs.Segments.{mode_for, part_in, with_segment, MappingDone, pin_all}
 use Rattle.law.specs.Account.{Account, mapping_noted, next_handle, spans_noted}
 use Rattle.law.proofs.Inv.{BooksOf, SegmentMapped, no_part}
-use Rattle.law.proofs.Books.{MapAccepted, map-accepted, books_pinned, next_handle_same}
+use Rattle.law.proofs.Books.{MapAccepted, map-accepted, owns_parts, books_pinned, next_handle_same}
 use Rattle.law.proofs.Spans.{no_span}
 
 -- 1 where domain 0's handle h is in use
@@ -66,6 +66,19 @@ module _ (F : Frames) (G : Grants) (a : Account) (guest i : ℕ) (j : Job) (s : 
   -- what the accepted map says
   yes : MapAccepted F G 0 guest s.reference (mode_for j.direction) g
   yes = map-accepted F G 0 guest s.reference (mode_for j.direction) g (omega arith) books.sound.handles_size ok
+
+  -- an owned frame is one of the table's, so the place of a byte in it is counted by 32 bits
+  frame-below : g.mapping.frame < 256
+  frame-below = elim (cases_lt g.mapping.frame 256) [
+    | inl b ↦ b
+    | inr past ↦
+        let none : at F.owners g.mapping.frame ≡ None = get_or_past F.owners g.mapping.frame None (omega (arith, books.sound.owners_size)) in
+        let some : at F.owners g.mapping.frame ≡ Some guest = (owns_parts F guest g.mapping.frame yes.owned).1 in
+        absurd (let z : ◌≡◌ {A = ℕ} 0 1 = cc in omega arith)
+  ]
+
+  part-start : s.start + s.length ≤ 4096 → (part_in g.mapping.frame s).start ≡ 4096 * g.mapping.frame + s.start
+  part-start l = let below : g.mapping.frame < 256 = frame-below in omega arith
 
   -- the account's next handle is the one granted
   pub next_is : next_handle a ≡ g.handle
@@ -139,7 +152,7 @@ module _ (F : Frames) (G : Grants) (a : Account) (guest i : ℕ) (j : Job) (s : 
           below = yes.handle;
           there = r.kept (key 0 g.handle) g.mapping there;
           offset = s.start;
-          start = refl;
+          start = part-start l;
           inside = l;
           mode = ap (λ (m : Mapping). m.mode) yes.mapping;
         })
