@@ -1,5 +1,5 @@
 -- A grant entry: eight bytes by which a domain lends one of its frames.
-use Rattle.std.specs.Prelude.{ℕ, ◌/◌, ◌%◌, Bool, List, [], ◌∷◌, ◌==◌, slice_index}
+use Rattle.std.specs.Prelude.{ℕ, ◌/◌, ◌%◌, Bool, [], ◌∷◌, ◌==◌, slice_index}
 use Rattle.layout.specs.Layout.{field}
 use Rattle.layout.specs.Message.{Message}
 use Rattle.abi.specs.declared.entry.GrantEntry.{GrantEntry}

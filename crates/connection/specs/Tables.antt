@@ -3,7 +3,6 @@ use Rattle.std.specs.Prelude.{ℕ, ◌+◌, ◌*◌, Bool, true, false, cond, �
 use Rattle.abi.specs.declared.page.Kind.{Kind}
 use Rattle.abi.specs.declared.page.Kind.TheVariants.{Block, Send, Receive}
 use Rattle.device.specs.declared.transfer.Part.{Part}
-use Rattle.rules.specs.Refusal.{if_some}
 use Rattle.rules.specs.Tables.{at, first_free}
 use Rattle.connection.specs.declared.kinds.Bay.{Bay}
 use Rattle.connection.specs.declared.kinds.Bay.TheVariants.{BlockBay, NetBay}

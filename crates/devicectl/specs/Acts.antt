@@ -1,9 +1,8 @@
 -- What a line of the script does to the device, and what is answered.
-use Rattle.std.specs.Prelude.{ℕ, ◌+◌, List, length, ℤ, pos, Ok, Err, Result}
+use Rattle.std.specs.Prelude.{ℕ, ◌+◌, List, length, pos}
 use Rattle.rules.specs.Refusal.{after_ok, either_of}
 use Rattle.device.specs.Meaning.{Rules, is_full, ready_ticket, accepting, serving, finishing}
 use Rattle.device.specs.Fault.{fault_number}
-use Rattle.device.specs.declared.fault.DeviceFault.{DeviceFault}
 use Rattle.device.specs.declared.orders.Direction.TheVariants.{Inward, Outward}
 use Rattle.devicectl.specs.declared.act.Command.{Command}
 use Rattle.devicectl.specs.declared.act.Command.TheVariants.{Fits, Full, Accept, Ready, Fill, Drain, Done}

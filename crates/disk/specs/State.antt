@@ -1,6 +1,6 @@
 -- What a disk means, and that it keeps what every device keeps.
-use Rattle.std.proofs.Common.{ap, add_assoc, lit<}
-use Rattle.std.specs.Prelude.{ℕ, ◌+◌, true, cond, List, [], ◌∷◌, ◌++◌, map, length, get_or, pos, is_ok, refl}
+use Rattle.std.proofs.Common.{ap, lit<}
+use Rattle.std.specs.Prelude.{ℕ, ◌+◌, true, cond, List, [], ◌∷◌, ◌++◌, length, pos, is_ok, refl}
 use Rattle.std.proofs.lemmas.List.Edits.{sets}
 use Rattle.std.proofs.Math.Seq.{length-sets}
 use Rattle.queue.specs.Line.{items}

@@ -1,11 +1,11 @@
 -- Bytes that are placed in a memory, and what lies elsewhere.
-use Rattle.std.proofs.Common.{◌≡◌, ℕ, ◌+◌, ◌-◌, ◌*◌, ◌<◌, ◌≤◌, ◌⊎◌, List, [], ◌∷◌, ◌++◌, length, take, drop, Ok, sym, refl, ap, ◌∙◌, inl, inr, arith}
+use Rattle.std.proofs.Common.{◌≡◌, ℕ, ◌+◌, ◌-◌, ◌*◌, ◌≤◌, ◌⊎◌, List, ◌++◌, length, take, drop, Ok, sym, refl, ap, ◌∙◌, inl, inr, arith}
 use borrow.Rule.Slice.PartMut.{put_mid}
 use Rattle.std.proofs.lemmas.List.{drop-drop}
 use Rattle.std.proofs.lemmas.Slice.{between_is, take-put_mid_below, drop-put_mid}
 use Rattle.std.proofs.lemmas.Bool.{cases_order, ltb-false}
 use Rattle.rules.proofs.Refusals.{none-held}
-use Rattle.frame.specs.Memory.{bytes_at, placed, frame_bytes, OthersKept, part_rules, part_verdict}
+use Rattle.frame.specs.Memory.{bytes_at, placed, OthersKept, part_rules, part_verdict}
 
 -- a part of a slice that was overwritten, as a memory with bytes placed in it
 pub put_is_placed : (a k : ℕ) (m ys bs : List ℕ) → ys ≡ bs → length bs ≡ k → put_mid a k m ys ≡ placed a bs m

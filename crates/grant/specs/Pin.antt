@@ -1,5 +1,5 @@
 -- A mapping begins, and ends.
-use Rattle.std.specs.Prelude.{ℕ, ◌+◌, ◌-◌, ◌%◌, ◌^◌, Bool, cond, Some, None, ◌==◌, bit_and, bit_or, nat_lt, slice_set}
+use Rattle.std.specs.Prelude.{ℕ, ◌+◌, ◌-◌, ◌%◌, ◌^◌, cond, Some, None, ◌==◌, bit_and, bit_or, nat_lt, slice_set}
 use Rattle.rules.specs.Refusal.{if_some}
 use Rattle.grant.specs.Tables.{place, key, entry_at, record_at, pinned, in_use}
 use Rattle.grant.specs.Entries.{with_flags}

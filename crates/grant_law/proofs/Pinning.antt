@@ -1,5 +1,5 @@
 -- A map that is accepted leaves the tables sound.
-use Rattle.std.proofs.Common.{◌≡◌, ℕ, ◌+◌, ◌*◌, ◌^◌, ◌<◌, Bool, true, false, cond, ◌&&◌, ◌||◌, eqb, ◌⊎◌, List, length, get_or, set, Some, None, Ok, count_by, Option, sym, refl, ap, ◌∙◌, subst, inl, inr, arith}
+use Rattle.std.proofs.Common.{◌≡◌, ℕ, ◌+◌, ◌<◌, Bool, true, false, cond, ◌&&◌, eqb, length, Some, None, count_by, Option, sym, refl, ap, ◌∙◌, subst, inl, inr, arith}
 use Rattle.std.proofs.lemmas.List.{length-set, get_or-set_same, get_or-set_other}
 use Rattle.std.proofs.lemmas.List.Sums.{sum_by-set}
 use Rattle.std.proofs.lemmas.Bool.{cases_eq, lt-ltb, and_from}
@@ -7,17 +7,14 @@ use Rattle.std.proofs.lemmas.Bool.Decides.{nat_tests}
 use Rattle.rules.specs.Tables.{at}
 use Rattle.frame.specs.Owners.{owns}
 use Rattle.frame.specs.declared.owners.Frames.{Frames}
-use Rattle.grant.specs.Tables.{fresh, place, key, entry_at, record_at, pinned, pins, weight, of_frame}
-use Rattle.grant.specs.Map.{mapping_of, mode_of, Grant, map_verdict}
+use Rattle.grant.specs.Tables.{fresh, place, key, record_at, pinned, pins, weight, of_frame}
 use Rattle.grant.specs.Pin.{pin, added, recorded}
 use Rattle.grant.specs.declared.tables.Record.{Record}
 use Rattle.grant.specs.declared.tables.Mapping.{Mapping}
-use Rattle.grant.specs.declared.tables.Mode.{Mode}
 use Rattle.grant.specs.declared.tables.Grants.{Grants}
-use Rattle.grant_law.specs.Sound.{Sound, place_of, placed, count_of}
+use Rattle.grant_law.specs.Sound.{Sound, place_of, placed}
 use Rattle.grant_law.proofs.Counting.{counted_bound, counted_use, counted-pin, placed-place, use_pins}
 use Rattle.grant_law.proofs.Weights.{added-weight, added-told}
-use Rattle.grant_law.proofs.Verdicts.{lowest_is_free, accepted}
 
 pub and_true : (b : Bool) → (b && true) ≡ b
 and_true true = refl

@@ -1,13 +1,12 @@
 -- The steps that need no counting, and all of them together.
-use Rattle.std.proofs.Common.{◌≡◌, ℕ, zero, suc, ◌+◌, ◌*◌, ◌^◌, ◌<◌, ◌≤◌, Bool, true, false, cond, ◌&&◌, eqb, ltb, ◌⊎◌, List, length, get_or, set, replicate, Some, None, Ok, count_by, Option, sym, refl, ap, ◌∙◌, subst, inl, inr, arith}
+use Rattle.std.proofs.Common.{◌≡◌, ℕ, zero, suc, ◌+◌, ◌<◌, true, false, ltb, List, length, get_or, replicate, Some, None, Ok, count_by, Option, sym, refl, ◌∙◌, subst, inl, inr, arith}
 use Rattle.std.proofs.lemmas.List.{length-set, get_or-set_other}
 use Rattle.std.proofs.lemmas.List.Sums.{get_or-le-sum_by, sum_by-cons}
-use Rattle.std.proofs.lemmas.Bool.{cases_eq, eq-eqb, and_parts, and_from, both_ways}
+use Rattle.std.proofs.lemmas.Bool.{cases_eq, eq-eqb, and_parts, both_ways}
 use Rattle.abi.specs.declared.entry.GrantEntry.{GrantEntry}
-use Rattle.rules.specs.Tables.{at}
 use Rattle.frame.specs.Owners.{owns, owner_of, is_domain, with_owner}
 use Rattle.frame.specs.declared.owners.Frames.{Frames}
-use Rattle.grant.specs.Tables.{fresh, blank, new_grants, place, key, record_at, pinned, pins, weight, of_frame}
+use Rattle.grant.specs.Tables.{fresh, new_grants, place, key, record_at, pinned, pins, weight, of_frame}
 use Rattle.grant.specs.Entries.{with_entry}
 use Rattle.grant.specs.Map.{Grant, map_verdict, mapping_of, mode_of}
 use Rattle.grant.specs.Pin.{pin}
@@ -16,7 +15,7 @@ use Rattle.grant.specs.declared.tables.Mapping.{Mapping}
 use Rattle.grant.specs.declared.tables.Mode.{Mode}
 use Rattle.grant.specs.declared.tables.Mode.TheVariants.{Read, Write}
 use Rattle.grant.specs.declared.tables.Grants.{Grants}
-use Rattle.grant_law.specs.Sound.{Sound, StaysSound, through, count_of, placed}
+use Rattle.grant_law.specs.Sound.{Sound, StaysSound, through, count_of}
 use Rattle.grant_law.proofs.Counting.{counted_bound, pinned-counts}
 use Rattle.grant_law.proofs.Verdicts.{accepted, lowest_is_free}
 use Rattle.grant_law.proofs.Pinning.{pinned_sound}

@@ -1,5 +1,5 @@
 -- A handle that is freed leaves the tables sound.
-use Rattle.std.proofs.Common.{◌≡◌, ℕ, ◌+◌, ◌*◌, ◌^◌, ◌<◌, Bool, true, false, cond, ◌&&◌, eqb, ltb, ◌⊎◌, List, length, get_or, set, Some, None, count_by, Option, sym, refl, ap, ◌∙◌, subst, inl, inr, arith}
+use Rattle.std.proofs.Common.{◌≡◌, ℕ, ◌^◌, ◌<◌, Bool, true, false, cond, eqb, length, Some, None, count_by, Option, sym, refl, ap, ◌∙◌, subst, inl, inr, arith}
 use Rattle.std.proofs.lemmas.List.{length-set, get_or-set_same, get_or-set_other}
 use Rattle.std.proofs.lemmas.List.Sums.{sum_by-set}
 use Rattle.std.proofs.lemmas.Bool.{cases_eq, lt-ltb}
@@ -9,9 +9,7 @@ use Rattle.frame.specs.Owners.{owns}
 use Rattle.frame.specs.declared.owners.Frames.{Frames}
 use Rattle.grant.specs.Tables.{fresh, place, key, record_at, pinned, pins, weight, of_frame, in_use}
 use Rattle.grant.specs.Pin.{unused, freed, unpin, released, removed}
-use Rattle.grant.specs.declared.tables.Record.{Record}
 use Rattle.grant.specs.declared.tables.Mapping.{Mapping}
-use Rattle.grant.specs.declared.tables.Mode.{Mode}
 use Rattle.grant.specs.declared.tables.Grants.{Grants}
 use Rattle.grant_law.specs.Sound.{Sound, place_of, placed, count_of}
 use Rattle.grant_law.proofs.Counting.{counted_bound, counted_use, counted-unpin, placed-place, use_pins}

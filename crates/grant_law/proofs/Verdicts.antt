@@ -1,5 +1,5 @@
 -- What an accepted map says, each by its rule.
-use Rattle.std.proofs.Common.{◌≡◌, ℕ, ◌+◌, ◌*◌, ◌<◌, Bool, true, false, ◌&&◌, ◌||◌, eqb, ltb, List, length, is_some, Some, None, Ok, Option, unwrap_or, sym, refl, ap, ◌∙◌, arith}
+use Rattle.std.proofs.Common.{◌≡◌, ℕ, ◌+◌, ◌*◌, ◌<◌, true, false, eqb, ltb, List, length, is_some, Some, None, Ok, Option, unwrap_or, sym, refl, ap, ◌∙◌, arith}
 use Rattle.std.specs.List.{between}
 use Rattle.std.proofs.lemmas.List.Edits.{length-between, get_or-between}
 use Rattle.std.proofs.lemmas.Bool.{ltb-false, or_parts, not-false, both_ways}
@@ -9,7 +9,7 @@ use Rattle.rules.proofs.Refusals.{none-held}
 use Rattle.rules.proofs.Free.{first_free_is}
 use Rattle.frame.specs.Owners.{owns}
 use Rattle.frame.specs.declared.owners.Frames.{Frames}
-use Rattle.grant.specs.Tables.{place, key, entry_at, record_at, handles_of, lowest, in_use, pinned}
+use Rattle.grant.specs.Tables.{place, key, entry_at, record_at, lowest, in_use, pinned}
 use Rattle.grant.specs.Map.{names, map_rules, mapping_of, mode_of, Grant, map_verdict}
 use Rattle.grant.specs.declared.tables.Mapping.{Mapping}
 use Rattle.grant.specs.declared.tables.Grants.{Grants}

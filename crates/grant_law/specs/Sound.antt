@@ -1,5 +1,5 @@
 -- What holds of the grant tables at all times.
-use Rattle.std.specs.Prelude.{◌≡◌, ℕ, ◌+◌, ◌*◌, ◌^◌, ◌<◌, Bool, true, false, ◌&&◌, List, length, Some, None, Ok, count_by, Option, ◌==◌, nat_lt}
+use Rattle.std.specs.Prelude.{◌≡◌, ℕ, ◌^◌, ◌<◌, Bool, true, false, ◌&&◌, length, Some, None, Ok, count_by, Option, ◌==◌, nat_lt}
 use Rattle.abi.specs.declared.entry.GrantEntry.{GrantEntry}
 use Rattle.rules.specs.Tables.{at}
 use Rattle.frame.specs.Owners.{owns, owner_of, with_owner}

@@ -1,11 +1,11 @@
 -- complete: nothing that the device is asked is refused, and the outcome is good.
-use Rattle.std.proofs.Common.{◌≡◌, ℕ, suc, ◌+◌, ◌*◌, ◌^◌, ◌<◌, ◌≤◌, Bool, true, false, cond, eqb, ◌⊎◌, List, [], ◌∷◌, ◌++◌, length, get_or, take, set, ℤ, Some, None, Ok, Err, sum_by, count_by, Option, Result, sym, refl, ap, ◌∙◌, subst, inl, inr, arith}
+use Rattle.std.proofs.Common.{◌≡◌, ℕ, suc, ◌+◌, ◌*◌, ◌^◌, ◌<◌, ◌≤◌, Bool, true, false, cond, List, [], ◌∷◌, length, get_or, set, ℤ, Some, None, Ok, Err, sum_by, Option, Result, sym, refl, ap, ◌∙◌, subst, inl, inr, arith}
 use Rattle.std.proofs.lemmas.List.{get_or-set_same, get_or-set_other, get_or-take, length-take-le}
 use Rattle.std.proofs.lemmas.List.Sums.{sum_by-cons}
-use Rattle.std.proofs.lemmas.Bool.{cases_eq, both_ways, cond-false}
+use Rattle.std.proofs.lemmas.Bool.{cases_eq, cond-false}
 use Rattle.abi.specs.declared.page.Kind.{Kind}
 use Rattle.rules.specs.Tables.{at}
-use Rattle.rules.specs.Refusal.{after_ok, either_of, if_some}
+use Rattle.rules.specs.Refusal.{after_ok, if_some}
 use Rattle.device.specs.Meaning.{Rules, ready_ticket, next_order, finishing}
 use Rattle.device.specs.Laws.{Laws}
 use Rattle.device.specs.declared.orders.Direction.{Direction}
@@ -17,11 +17,8 @@ use Rattle.frame.specs.Memory.{frame_bytes}
 use Rattle.grant.specs.Tables.{key}
 use Rattle.grant.specs.Map.{mode_of}
 use Rattle.grant.specs.declared.tables.Mapping.{Mapping}
-use Rattle.grant.specs.declared.tables.Mode.TheVariants.{Write}
-use Rattle.ringpage.specs.declared.slot.Request.{Request}
 use Rattle.request.specs.Content.{id_of, operation_of}
-use Rattle.ring.specs.declared.fault.RingFault.{RingFault}
-use Rattle.ring.specs.declared.fault.RingFault.TheVariants.{NoJob, OfDevice}
+use Rattle.ring.specs.declared.fault.RingFault.TheVariants.{NoJob}
 use Rattle.connection.specs.Tables.{bay_of, same_bay, in_bay, job_at, connection_at, handles_of, parts_of, with_job}
 use Rattle.connection.specs.declared.kinds.Bay.{Bay}
 use Rattle.connection.specs.declared.tables.Connection.{Connection}
@@ -30,25 +27,23 @@ use Rattle.backend.specs.Segments.{released_all, mode_for}
 use Rattle.backend.specs.Respond.{responded_memory, responded_rings}
 use Rattle.backend.specs.Move.{moving, moved_memory, moved_device}
 use Rattle.backend.specs.declared.tables.Tables.{Tables}
-use Rattle.answer.specs.declared.reply.Answer.{Answer}
 use Rattle.answer.specs.declared.reply.Answer.TheVariants.{Idle, Completed}
 use Rattle.law.specs.Serve.{Outcome, responded}
 use Rattle.law.specs.Complete.{closed, finished, completed_job, completed}
-use Rattle.law.specs.Account.{Account, ConnectionNote, JobNote, MappingNote, complete_noted, job_answered, mappings_ended, noted_connection, noted_job, with_response}
-use Rattle.law.specs.Keeps.{Writes, Maps, InSlot, nth, responses, under_ticket, handed, Pairing, noted_pairing, host_pairing, Work, noted_work, host_work}
-use Rattle.law.proofs.Inv.{BooksOf, Links, Requests, BayHeld, Words, SegmentMapped, JobHeld, OrderHeld, RequestHeld, no_part}
+use Rattle.law.specs.Account.{Account, ConnectionNote, JobNote, complete_noted, job_answered, mappings_ended, noted_connection, noted_job, with_response}
+use Rattle.law.specs.Keeps.{Writes, Maps, InSlot, under_ticket, handed, Pairing, noted_pairing, host_pairing, Work, noted_work, host_work}
+use Rattle.law.proofs.Inv.{Links, Requests, BayHeld, SegmentMapped, JobHeld, OrderHeld, RequestHeld, no_part}
 use Rattle.law.proofs.Books.{frame-owned, owns_parts, in_force}
-use Rattle.law.proofs.Links.{connection-noted, job_noted_too, links_completed, job_notes_size}
+use Rattle.law.proofs.Links.{connection-noted, job_noted_too, links_completed}
 use Rattle.law.proofs.Requested.{requests-completed}
-use Rattle.law.proofs.Tickets.{at_set, taken_inside, same_some}
+use Rattle.law.proofs.Tickets.{taken_inside, same_some}
 use Rattle.law.proofs.Released.{AllReleased, segments_released, counted-stands, uncounted}
 use Rattle.law.proofs.Bytes.{page_there, responded-size, responded-others}
 use Rattle.law.proofs.Altered.{PartIn, filled-others}
 use Rattle.law.proofs.Marks.{responded_words}
 use Rattle.law.proofs.Bays.{under_done, turn_order}
 use Rattle.law.proofs.Moves.{moved_orders, moves_granted, done_granted, moved_size}
-use Rattle.law.proofs.Cases.{by_either, by_some, by_cond}
-use Rattle.law.proofs.Good.{no_response}
+use Rattle.law.proofs.Cases.{by_either, by_some}
 use Rattle.law.proofs.Outcomes.{HostInv, page-written, OutcomeGood}
 use Rattle.law.proofs.Serving.{outcome_same, response_noted, bays_apart}
 

@@ -1,6 +1,5 @@
 -- connect and disconnect.
-use Rattle.std.proofs.Common.{◌≡◌, ℕ, ◌+◌, ◌*◌, ◌<◌, ◌≤◌, Bool, true, false, cond, not, ◌⊎◌, List, [], ◌∷◌, length, get_or, set, is_some, Some, None, Ok, Err, Option, Result, unwrap_or, sym, refl, ap, ◌∙◌, subst, inl, inr, arith}
-use Rattle.std.proofs.lemmas.List.{get_or-set_same, get_or-set_other}
+use Rattle.std.proofs.Common.{◌≡◌, ℕ, ◌+◌, ◌<◌, Bool, true, false, not, [], ◌∷◌, length, get_or, set, is_some, Some, None, Ok, Err, Option, Result, unwrap_or, sym, refl, ap, ◌∙◌, subst, inl, inr, arith}
 use Rattle.std.proofs.lemmas.Bool.{cases_eq, not-false, both_ways}
 use Rattle.abi.specs.declared.page.Kind.TheVariants.{Block}
 use Rattle.rules.specs.Tables.{at}
@@ -8,42 +7,39 @@ use Rattle.rules.specs.Refusal.{refuse_first, passed, if_some}
 use Rattle.rules.proofs.Refusals.{NoneHolds, none-held}
 use Rattle.rules.proofs.Free.{first_free_is}
 use Rattle.device.specs.Meaning.{Rules}
-use Rattle.device.specs.declared.fault.DeviceFault.{DeviceFault}
-use Rattle.frame.specs.Memory.{frame_bytes}
-use Rattle.grant.specs.Tables.{blank, place, key, entry_at, lowest}
-use Rattle.grant.specs.Map.{Grant, map_verdict, mapping_of, mode_of}
-use Rattle.grant.specs.Pin.{pin, released}
+use Rattle.grant.specs.Tables.{blank, place, key}
+use Rattle.grant.specs.Map.{Grant, map_verdict}
+use Rattle.grant.specs.Pin.{released}
 use Rattle.grant.specs.declared.tables.Mapping.{Mapping}
 use Rattle.grant.specs.declared.tables.Mode.TheVariants.{Write}
-use Rattle.grant.specs.declared.tables.Grants.{Grants}
 use Rattle.grant.specs.declared.fault.GrantFault.{GrantFault}
 use Rattle.event.specs.Pending.{dropped}
 use Rattle.ring.specs.Page.{fresh_header}
 use Rattle.ring.specs.declared.fault.RingFault.{RingFault}
-use Rattle.ring.specs.declared.fault.RingFault.TheVariants.{BadKind, NoConnection, NotLive, HasJobs, OfGrant, OfDevice}
+use Rattle.ring.specs.declared.fault.RingFault.TheVariants.{BadKind, NoConnection, NotLive, HasJobs, OfGrant}
 use Rattle.connection.specs.Tables.{kind_numbered, connection_at, free_connection, has_jobs, with_connection}
 use Rattle.connection.specs.declared.kinds.Bay.TheVariants.{BlockBay, NetBay}
 use Rattle.connection.specs.declared.tables.Connection.{Connection}
 use Rattle.backend.specs.Respond.{port_of}
 use Rattle.backend.specs.declared.tables.Tables.{Tables}
 use Rattle.answer.specs.declared.fault.HostFault.TheVariants.{InRing}
-use Rattle.answer.specs.declared.reply.Answer.TheVariants.{Done, Connected, Port}
+use Rattle.answer.specs.declared.reply.Answer.TheVariants.{Done, Connected}
 use Rattle.law.specs.World.{World, with_host, with_memory}
 use Rattle.law.specs.Call.{Connect, Disconnect}
 use Rattle.law.specs.Connect.{connect_rules, connect_verdict, new_number, new_connection, connected, connected_memory, disconnect_verdict, disconnected}
 use Rattle.law.specs.Step.{proceeds}
-use Rattle.law.specs.Account.{Account, ConnectionNote, accepted, next_handle, mapping_noted, mapping_ended, noted_connection, connect_noted, disconnect_noted}
-use Rattle.law.specs.Keeps.{Owns, Writes, nth, InSlot, responses, host_pairing, noted_pairing, Counted, Pairing}
-use Rattle.law.proofs.Inv.{Inv, BooksOf, Links, Requests, BayHeld}
+use Rattle.law.specs.Account.{Account, ConnectionNote, accepted, next_handle, mapping_noted, mapping_ended, noted_connection, disconnect_noted}
+use Rattle.law.specs.Keeps.{Pairing}
+use Rattle.law.proofs.Inv.{Inv, Links, Requests, BayHeld}
 use Rattle.law.proofs.Books.{MapAccepted, map-accepted, books_pinned, books_unpinned, owns_parts, next_handle_same}
 use Rattle.law.proofs.Released.{released-handles}
-use Rattle.law.proofs.Links.{links_opened, links_closed, connection-noted, notes_size}
+use Rattle.law.proofs.Links.{links_opened, links_closed, connection-noted}
 use Rattle.law.proofs.Requested.{requests_opened, requests-closed}
-use Rattle.law.proofs.Tickets.{at_set, taken_inside}
+use Rattle.law.proofs.Tickets.{at_set}
 use Rattle.law.proofs.Bytes.{put_size, put_others}
 use Rattle.law.proofs.Marks.{dropped_words}
 use Rattle.law.proofs.Simple.{ended_keeps}
-use Rattle.law.proofs.Good.{Good, Unbroken, after, good_by, good_quiet, no_response}
+use Rattle.law.proofs.Good.{Good, Unbroken, after, good_by, no_response}
 
 passed_ok : {T E G : Type 0} (g : E → G) (r : Result T E) (t : T) → passed g r ≡ Ok t → r ≡ Ok t
 passed_ok g (Ok x) t e = cc

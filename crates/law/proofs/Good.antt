@@ -1,5 +1,5 @@
 -- A step is good: it keeps the invariant, and does what the law says of it. The law of one step follows.
-use Rattle.std.proofs.Common.{◌≡◌, ℕ, ◌+◌, ◌*◌, ◌<◌, ◌≤◌, Bool, true, false, cond, ◌⊎◌, List, length, get_or, Some, None, Ok, Err, Option, Result, sym, refl, ap, ◌∙◌, subst, inl, inr, arith}
+use Rattle.std.proofs.Common.{◌≡◌, ℕ, ◌<◌, ◌≤◌, ◌⊎◌, List, length, get_or, Some, Ok, Err, Option, Result, sym, refl, ap, ◌∙◌, subst, arith}
 use Rattle.rules.specs.Tables.{at}
 use Rattle.rules.specs.Refusal.{if_some}
 use Rattle.device.specs.Meaning.{Rules}
@@ -15,9 +15,9 @@ use Rattle.answer.specs.declared.reply.Answer.{Answer}
 use Rattle.answer.specs.declared.reply.Answer.TheVariants.{Port}
 use Rattle.law.specs.World.{World, with_memory}
 use Rattle.law.specs.Call.{Call, Next, domain, Reply}
-use Rattle.law.specs.Step.{Ends, step, told, passed_up, by_verdict}
+use Rattle.law.specs.Step.{Ends, step, told, by_verdict}
 use Rattle.law.specs.Account.{Account, ConnectionNote, accepted, noted}
-use Rattle.law.specs.Keeps.{Step, Keeps, Owns, Maps, Writes, InSlot, nth, responses}
+use Rattle.law.specs.Keeps.{Keeps, Owns, Maps, Writes, InSlot, nth, responses}
 use Rattle.law.proofs.Inv.{Inv}
 use Rattle.law.proofs.Books.{granted, pins-mappings, pins-counted}
 use Rattle.law.proofs.Requested.{answers_one, answers-once}

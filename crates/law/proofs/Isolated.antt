@@ -1,13 +1,12 @@
 -- Isolation over any run: each call, accepted or refused, keeps the invariant and the law.
-use Rattle.std.proofs.Common.{◌≡◌, ℕ, ◌+◌, ◌*◌, ◌<◌, ◌≤◌, Bool, true, false, not, ◌||◌, eqb, ltb, ◌⊎◌, List, [], ◌∷◌, length, Some, None, Ok, Err, Option, Result, sym, refl, ap, ◌∙◌, subst, inl, inr, arith}
+use Rattle.std.proofs.Common.{◌≡◌, ℕ, ◌*◌, ◌<◌, ◌≤◌, Bool, true, false, ◌||◌, eqb, ltb, [], ◌∷◌, length, Some, None, Ok, Err, Result, sym, refl, ap, ◌∙◌, subst, arith}
 use Rattle.std.proofs.lemmas.Bool.{or_parts, ltb-false, eqb-false, eqb-true, not-false}
-use Rattle.rules.specs.Refusal.{Rule, refuse_first, either_of}
+use Rattle.rules.specs.Refusal.{refuse_first, either_of}
 use Rattle.rules.specs.Tables.{at}
 use Rattle.rules.proofs.Refusals.{none-held}
 use Rattle.device.specs.Meaning.{Rules, ready_ticket}
 use Rattle.device.specs.Laws.{Laws}
-use Rattle.ring.specs.declared.fault.RingFault.{RingFault}
-use Rattle.ring.specs.declared.fault.RingFault.TheVariants.{BadBay, OfDevice}
+use Rattle.ring.specs.declared.fault.RingFault.TheVariants.{BadBay}
 use Rattle.connection.specs.Tables.{bay_of, same_bay, connection_at}
 use Rattle.connection.specs.declared.kinds.Bay.{Bay}
 use Rattle.connection.specs.declared.kinds.Bay.TheVariants.{BlockBay, NetBay}
@@ -17,7 +16,7 @@ use Rattle.answer.specs.declared.fault.HostFault.{HostFault}
 use Rattle.answer.specs.declared.fault.HostFault.TheVariants.{BadMemory, BadCaller, InRing}
 use Rattle.law.specs.World.{World, new_host}
 use Rattle.law.specs.Call.{Call, Take, Give, Load, Store, Entry, End, Map, Unmap, Send, Next, Connect, Serve, Complete, Disconnect}
-use Rattle.law.specs.Step.{Ends, step, proceeds, wrong_memory, host_rules, guest_rules, start_rules, started, told, served_in, completed_in, serving_bay, bay_rules, bay_numbered}
+use Rattle.law.specs.Step.{step, proceeds, wrong_memory, host_rules, guest_rules, start_rules, started, told, served_in, completed_in, serving_bay, bay_numbered}
 use Rattle.law.specs.Serve.{served}
 use Rattle.law.specs.Complete.{completed}
 use Rattle.law.specs.Account.{Account, nothing_yet, noted, accepted, serve_noted, complete_noted, ready_in}

@@ -1,11 +1,11 @@
 -- A call that takes its step keeps the law, whatever run led to it.
-use Rattle.std.proofs.Common.{◌≡◌, ℕ, List, ◌∷◌, refl}
+use Rattle.std.proofs.Common.{ℕ, ◌∷◌, refl}
 use Rattle.device.specs.Meaning.{Rules}
 use Rattle.device.specs.Laws.{Laws}
 use Rattle.law.specs.World.{World}
 use Rattle.law.specs.Call.{Call, Reply}
-use Rattle.law.specs.Run.{History, Meanwhile, Does, Reaches, Lawful, Kept}
-use Rattle.law.specs.Law.{Picks, Isolation}
+use Rattle.law.specs.Run.{Meanwhile, Does, Reaches, Kept}
+use Rattle.law.specs.Law.{Picks}
 use Rattle.law.proofs.Isolated.{isolation}
 
 module _ {M N : Type 0} (R : Rules M) (S : Rules N) where

@@ -1,5 +1,5 @@
 -- Other bytes where a call's domain may not look would have changed neither its answer nor a device.
-use Rattle.std.proofs.Common.{◌≡◌, ℕ, ◌+◌, ◌*◌, ◌<◌, ◌≤◌, Bool, true, false, cond, not, ◌||◌, eqb, ltb, ◌⊎◌, List, [], ◌∷◌, length, get_or, Some, None, Ok, Err, Option, Result, sym, refl, ap, ◌∙◌, subst, inl, inr, arith}
+use Rattle.std.proofs.Common.{◌≡◌, ℕ, ◌+◌, ◌*◌, ◌<◌, ◌≤◌, Bool, true, false, cond, not, ◌||◌, eqb, ltb, ◌⊎◌, List, [], ◌∷◌, length, get_or, Some, None, Ok, Err, Result, sym, refl, ap, ◌∙◌, subst, inl, inr, arith}
 use Rattle.std.proofs.lemmas.Bool.{not-false, ltb-true, ltb-false, or_cases}
 use Rattle.rules.specs.Tables.{at}
 use Rattle.rules.specs.Refusal.{Rule, refuse_first, after_ok, either_of}
@@ -27,8 +27,6 @@ use Rattle.answer.specs.declared.reply.Answer.TheVariants.{Done, Length, Handle,
 use Rattle.law.specs.World.{World, with_frames, with_grants, with_events, with_host, with_memory}
 use Rattle.law.specs.Call.{Call, Take, Give, Load, Store, Entry, End, Map, Unmap, Send, Next, Connect, Serve, Complete, Disconnect, domain, Reply}
 use Rattle.law.specs.Connect.{connect_verdict, new_number, connected, connected_memory, disconnect_verdict, disconnected}
-use Rattle.law.specs.Serve.{Outcome, served}
-use Rattle.law.specs.Complete.{completed}
 use Rattle.law.specs.Step.{Ends, step, proceeds, by_verdict, send_rules, next_port, host_rules, told, passed_up, served_in, completed_in, serving_bay, bay_rules, bay_numbered}
 use Rattle.law.specs.Account.{Account}
 use Rattle.law.specs.Keeps.{Owns, Maps}

@@ -1,14 +1,12 @@
 -- A call that one device has part in: what it does, whichever bay the device is in.
-use Rattle.std.proofs.Common.{◌≡◌, ℕ, ◌+◌, ◌*◌, ◌<◌, ◌≤◌, Bool, true, false, ◌⊎◌, List, [], length, get_or, Some, None, Ok, Err, Option, Result, sym, refl, ap, ◌∙◌, subst, inl, inr, arith}
+use Rattle.std.proofs.Common.{◌≡◌, ℕ, ◌*◌, ◌<◌, ◌≤◌, false, List, length, get_or, Some, Ok, Err, Result, sym, refl, ap, ◌∙◌, subst, arith}
 use Rattle.rules.specs.Tables.{at}
 use Rattle.rules.specs.Refusal.{after_ok}
 use Rattle.device.specs.Meaning.{Rules}
 use Rattle.device.specs.declared.fault.DeviceFault.{DeviceFault}
 use Rattle.frame.specs.Memory.{frame_bytes}
-use Rattle.frame.specs.declared.owners.Frames.{Frames}
 use Rattle.grant.specs.Tables.{key}
 use Rattle.grant.specs.declared.tables.Mapping.{Mapping}
-use Rattle.grant.specs.declared.tables.Mode.TheVariants.{Write}
 use Rattle.ringpage.specs.declared.slot.Request.{Request}
 use Rattle.ring.specs.declared.fault.RingFault.{RingFault}
 use Rattle.ring.specs.declared.fault.RingFault.TheVariants.{OfDevice}
@@ -19,16 +17,15 @@ use Rattle.connection.specs.declared.tables.Connection.{Connection}
 use Rattle.backend.specs.declared.tables.Tables.{Tables}
 use Rattle.answer.specs.declared.fault.HostFault.TheVariants.{InRing}
 use Rattle.answer.specs.declared.reply.Answer.{Answer}
-use Rattle.answer.specs.declared.reply.Answer.TheVariants.{Port}
 use Rattle.law.specs.World.{World}
 use Rattle.law.specs.Call.{Call, Next, domain}
 use Rattle.law.specs.Serve.{Outcome}
 use Rattle.law.specs.Step.{told, passed_up, by_bay0, by_bay1}
-use Rattle.law.specs.Account.{Account, ConnectionNote, MappingNote, accepted, noted}
-use Rattle.law.specs.Keeps.{Owns, Maps, Writes, InSlot, nth, responses, under_ticket, handed}
+use Rattle.law.specs.Account.{Account, ConnectionNote, accepted, noted}
+use Rattle.law.specs.Keeps.{Writes, InSlot, nth, responses, handed}
 use Rattle.law.proofs.Inv.{Inv, BooksOf, Links, Requests, BayHeld, Words, PageMapped}
 use Rattle.law.proofs.Books.{in_force}
-use Rattle.law.proofs.Good.{Good, after, good_same}
+use Rattle.law.proofs.Good.{Good}
 
 -- what the invariant says of host and memory alone
 pub record HostInv (a : Account) (H : Tables) (m : List ℕ) : Type 0 where

@@ -1,17 +1,15 @@
 -- The law follows from three facts about the invariant: it holds at the start, each step keeps it, and it gives the law
 -- of each step.
-use Rattle.std.proofs.Common.{◌≡◌, ℕ, ◌*◌, ◌≤◌, List, [], ◌∷◌, length, sym, ap, ◌∙◌, subst}
+use Rattle.std.proofs.Common.{ℕ, ◌*◌, ◌≤◌, [], ◌∷◌, sym, ap, ◌∙◌, subst}
 use Rattle.device.specs.Meaning.{Rules}
 use Rattle.device.specs.Laws.{Laws}
 use Rattle.backend.specs.declared.tables.Tables.{Tables}
-use Rattle.connection.specs.declared.kinds.Bay.{Bay}
 use Rattle.law.specs.World.{World}
-use Rattle.law.specs.Account.{Account, JobNote, nothing_yet, noted}
-use Rattle.law.specs.Keeps.{Step, Keeps, under_ticket, handed}
+use Rattle.law.specs.Account.{Account, nothing_yet, noted}
+use Rattle.law.specs.Keeps.{Step, Keeps, under_ticket}
 use Rattle.law.specs.Run.{History, Starts, Meanwhile, Does, Reaches, Lawful, account}
 use Rattle.law.specs.Law.{Picks, Isolation}
-use Rattle.rules.specs.Tables.{at}
-use Rattle.law.proofs.Inv.{Inv, BooksOf, Links, Requests, BayHeld, Words}
+use Rattle.law.proofs.Inv.{Inv, BooksOf, Links, Requests, Words}
 
 module _ {M N : Type 0} (R : Rules M) (S : Rules N) (pick : ℕ → ℕ) where
   -- the account after a step

@@ -1,5 +1,5 @@
 -- serve: whatever becomes of the request, the outcome is good.
-use Rattle.std.proofs.Common.{◌≡◌, ℕ, ◌+◌, ◌-◌, ◌*◌, ◌%◌, ◌^◌, ◌<◌, ◌≤◌, Bool, true, false, cond, ◌||◌, eqb, ltb, ◌⊎◌, List, [], ◌∷◌, ◌++◌, map, length, get_or, set, replicate, ℤ, is_some, Some, None, Ok, Err, sum_by, count_by, Option, Result, sym, refl, ap, ◌∙◌, subst, inl, inr, arith}
+use Rattle.std.proofs.Common.{◌≡◌, ℕ, ◌+◌, ◌-◌, ◌*◌, ◌<◌, ◌≤◌, Bool, true, false, cond, ◌||◌, eqb, ltb, List, [], ◌∷◌, ◌++◌, map, length, get_or, set, ℤ, is_some, Some, None, Ok, Err, sum_by, count_by, Option, Result, sym, refl, ap, ◌∙◌, subst, inl, inr, arith}
 use Rattle.std.proofs.lemmas.List.{get_or-set_same, get_or-set_other, get_or_push, length_push, map_push, length-map}
 use Rattle.std.proofs.lemmas.Bool.{cases_eq, or_parts, both_ways, cond-false}
 use Rattle.layout.specs.Layout.{le}
@@ -7,7 +7,7 @@ use Rattle.abi.specs.Index.{shown, distance}
 use Rattle.abi.specs.Page.{slots, slot_start}
 use Rattle.abi.specs.declared.page.Kind.{Kind}
 use Rattle.rules.specs.Tables.{at}
-use Rattle.rules.specs.Refusal.{refuse_first, and_then, after_ok, either_of, if_some}
+use Rattle.rules.specs.Refusal.{refuse_first, and_then, after_ok, if_some}
 use Rattle.device.specs.Meaning.{Rules, is_full, accepting}
 use Rattle.device.specs.Laws.{Laws}
 use Rattle.device.specs.declared.orders.Direction.{Direction}
@@ -20,7 +20,6 @@ use Rattle.grant.specs.declared.tables.Mapping.{Mapping}
 use Rattle.grant.specs.declared.tables.Grants.{Grants}
 use Rattle.ringpage.specs.declared.slot.Request.{Request}
 use Rattle.ring.specs.Total.{request_or_zeros, word_or_zero}
-use Rattle.ring.specs.Producer.{ahead}
 use Rattle.ring.specs.Fault.{status_of}
 use Rattle.ring.specs.Response.{response_bytes}
 use Rattle.ring.specs.declared.page.Word.TheVariants.{ReqProd}
@@ -38,19 +37,19 @@ use Rattle.connection.specs.declared.tables.Connection.{Connection}
 use Rattle.connection.specs.declared.tables.Job.{Job}
 use Rattle.backend.specs.Look.{look, next_request, event_asked, consumed, consumed_on, next_index}
 use Rattle.backend.specs.Segments.{MappingDone, pin_all, released_all, job_for, order_for, mode_for}
-use Rattle.backend.specs.Respond.{responded_memory, responded_rings, responded_events}
+use Rattle.backend.specs.Respond.{responded_memory, responded_rings}
 use Rattle.backend.specs.declared.tables.Tables.{Tables}
 use Rattle.answer.specs.declared.reply.Answer.{Answer}
 use Rattle.answer.specs.declared.reply.Answer.TheVariants.{Idle, HandedOver, AnsweredNow}
-use Rattle.law.specs.World.{with_grants, with_events, with_rings}
-use Rattle.law.specs.Serve.{Outcome, responded, answered_now, handed_over, segments_mapped, spent, served_on, served}
+use Rattle.law.specs.World.{with_grants, with_rings}
+use Rattle.law.specs.Serve.{Outcome, answered_now, handed_over, segments_mapped, spent, served_on, served}
 use Rattle.law.specs.Account.{Account, ConnectionNote, JobNote, SpansNoted, next_noted, with_request, with_response, answer_noted, job_noted, serve_noted, spans_noted, noted_connection, noted_job}
 use Rattle.law.specs.Keeps.{Writes, InSlot, nth, responses, handed, Pairing, host_pairing, noted_pairing, Work, host_work, noted_work}
-use Rattle.law.proofs.Inv.{BooksOf, Links, Requests, BayHeld, Words, SegmentMapped, no_part}
+use Rattle.law.proofs.Inv.{Links, Requests, BayHeld, SegmentMapped, no_part}
 use Rattle.law.proofs.Books.{frame-owned, owns_parts}
 use Rattle.law.proofs.Links.{connection-noted, job-held_too, next_ticket_same, links_answered, links_handed, job_notes_size}
 use Rattle.law.proofs.Requested.{requests-answered, requests-handed}
-use Rattle.law.proofs.Tickets.{at_set, set_taken, taken_inside, same_some, none_some, free_ticket, ticket_range, free_or_taken}
+use Rattle.law.proofs.Tickets.{at_set, taken_inside, same_some, none_some, free_ticket, ticket_range}
 use Rattle.law.proofs.Segments.{AllPinned, segments_pinned}
 use Rattle.law.proofs.Undoing.{Undone, segments_refused, segments_undone}
 use Rattle.law.proofs.Spans.{no_span, checked-spans}

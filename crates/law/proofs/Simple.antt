@@ -1,47 +1,43 @@
 -- The calls that touch one table: take, give, load, store, entry, end, map, unmap, send, next.
-use Rattle.std.proofs.Common.{◌≡◌, ℕ, ◌+◌, ◌-◌, ◌*◌, ◌^◌, ◌<◌, ◌≤◌, Bool, true, false, cond, not, ◌&&◌, ◌||◌, eqb, ltb, ◌⊎◌, List, [], ◌∷◌, length, get_or, set, is_some, Some, None, Ok, Err, Option, Result, sym, refl, ap, ◌∙◌, subst, inl, inr, arith}
-use Rattle.std.proofs.lemmas.List.{get_or-set_same, get_or-set_other, get_or_past, length-set}
-use Rattle.std.proofs.lemmas.Bool.{cases_eq, cases_lt, cases_Bool, not-false, ltb-true, ltb-false, eqb-true, eqb-false, or_parts, or_cases, and_parts, both_ways}
+use Rattle.std.proofs.Common.{◌≡◌, ℕ, ◌+◌, ◌-◌, ◌*◌, ◌<◌, ◌≤◌, Bool, true, false, cond, not, ◌||◌, eqb, ltb, ◌⊎◌, List, [], length, get_or, set, is_some, Some, None, Ok, Err, Option, Result, sym, refl, ap, ◌∙◌, subst, inl, inr, arith}
+use Rattle.std.proofs.lemmas.List.{get_or-set_same, get_or-set_other, get_or_past}
+use Rattle.std.proofs.lemmas.Bool.{cases_eq, cases_lt, not-false, ltb-true, ltb-false, or_parts, or_cases, both_ways}
 use Rattle.rules.specs.Tables.{at}
 use Rattle.rules.specs.Refusal.{refuse_first, after_ok, if_some}
 use Rattle.rules.proofs.Refusals.{none-held}
 use Rattle.device.specs.Meaning.{Rules}
-use Rattle.device.specs.declared.fault.DeviceFault.{DeviceFault}
 use Rattle.frame.specs.Owners.{owner_of, owns, take_rules, give_rules, with_owner}
 use Rattle.frame.specs.Access.{access_rules}
 use Rattle.frame.specs.Memory.{frame_bytes, zeroed, placed, bytes_at}
 use Rattle.frame.specs.declared.fault.FrameFault.{FrameFault}
-use Rattle.grant.specs.Tables.{blank, in_use, pins, place, key, entry_at, maps_frame, writes_frame}
+use Rattle.grant.specs.Tables.{blank, pins, place, key, entry_at, maps_frame, writes_frame}
 use Rattle.grant.specs.Entries.{entry_rules, end_rules, with_entry, with_flags}
-use Rattle.grant.specs.Map.{Grant, map_verdict, unmap_verdict, mode_of}
-use Rattle.grant.specs.Pin.{pin, unpin, unused, released}
+use Rattle.grant.specs.Map.{map_verdict, unmap_verdict, mode_of}
+use Rattle.grant.specs.Pin.{pin, unpin, unused}
 use Rattle.grant.specs.declared.tables.Mapping.{Mapping}
 use Rattle.grant.specs.declared.tables.Grants.{Grants}
 use Rattle.grant.specs.declared.fault.GrantFault.{GrantFault}
 use Rattle.event.specs.declared.pending.Events.{Events}
 use Rattle.event.specs.declared.fault.EventFault.{EventFault}
 use Rattle.event.specs.Pending.{word, bit, marked, dropped}
-use Rattle.ring.specs.declared.fault.RingFault.TheVariants.{OfDevice}
 use Rattle.connection.specs.Tables.{connection_at}
 use Rattle.connection.specs.declared.kinds.Bay.TheVariants.{BlockBay, NetBay}
 use Rattle.connection.specs.declared.tables.Connection.{Connection}
-use Rattle.answer.specs.declared.fault.HostFault.{HostFault}
-use Rattle.answer.specs.declared.fault.HostFault.TheVariants.{BadMemory, BadCaller, InFrame, InGrant, InEvent, InRing}
-use Rattle.answer.specs.declared.reply.Answer.{Answer}
+use Rattle.answer.specs.declared.fault.HostFault.TheVariants.{InFrame, InGrant, InEvent}
 use Rattle.answer.specs.declared.reply.Answer.TheVariants.{Done, Length, Handle, Port}
 use Rattle.backend.specs.declared.tables.Tables.{Tables}
 use Rattle.law.specs.World.{World, with_frames, with_grants, with_events, with_host, with_memory}
-use Rattle.law.specs.Call.{Call, Take, Give, Load, Store, Entry, End, Map, Unmap, Send, Next}
-use Rattle.law.specs.Step.{Ends, proceeds, told, passed_up, guest_rules, next_rules, send_rules, guests_end, next_port}
+use Rattle.law.specs.Call.{Take, Give, Load, Store, Entry, End, Map, Unmap, Send, Next}
+use Rattle.law.specs.Step.{proceeds, told, passed_up, send_rules, guests_end, next_port}
 use Rattle.law.specs.Account.{Account, MappingNote, counted, accepted, noted, noted_owner, noted_entry, mapping_noted, mapping_ended}
-use Rattle.law.specs.Keeps.{Owns, Writes}
+use Rattle.law.specs.Keeps.{Writes}
 use Rattle.law.specs.Law.{Picks}
 use Rattle.law.proofs.Inv.{Inv, Words, Links, BooksOf, Requests, BayHeld}
-use Rattle.law.proofs.Books.{books_taken, books_given, books_entry, books_ended, books_pinned, books_unpinned, map-accepted, unmap_accepted, pinned-owned, owns_parts, writes_from}
+use Rattle.law.proofs.Books.{books_taken, books_given, books_entry, books_ended, books_pinned, books_unpinned, unmap_accepted, pinned-owned, owns_parts, writes_from}
 use Rattle.law.proofs.Links.{links_elsewhere}
 use Rattle.law.proofs.Bytes.{zeroed-size, zeroed-others, placed-size, stored_others, page_there}
 use Rattle.law.proofs.Marks.{marked_words, dropped_words, next_pending}
-use Rattle.law.proofs.Good.{Good, Unbroken, after, good_same, good_refused, good_by, good_quiet, no_response}
+use Rattle.law.proofs.Good.{Good, Unbroken, after, good_same, good_by, good_quiet, no_response}
 
 none_of : {X : Type 0} (o : Option X) → is_some o ≡ false → o ≡ None
 none_of None e = refl

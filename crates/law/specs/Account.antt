@@ -1,6 +1,6 @@
 -- A bookkeeper beside the host. It is given each call, its answer, and the memory and the devices as the call found
 -- them; it never sees the host.
-use Rattle.std.specs.Prelude.{ℕ, ◌+◌, List, [], ◌∷◌, ◌++◌, length, get_or, set, replicate, Some, None, Option, slice_index, slice_index_or, slice_set}
+use Rattle.std.specs.Prelude.{ℕ, ◌+◌, List, [], ◌∷◌, ◌++◌, length, get_or, replicate, Some, None, Option, slice_index, slice_index_or, slice_set}
 use Rattle.std.specs.Option.{unwrap_or}
 use Rattle.abi.specs.declared.entry.GrantEntry.{GrantEntry}
 use Rattle.abi.specs.declared.page.Kind.{Kind}

@@ -6,7 +6,6 @@ use Rattle.device.specs.declared.fault.DeviceFault.{DeviceFault}
 use Rattle.ring.specs.declared.fault.RingFault.TheVariants.{NoJob, OfDevice}
 use Rattle.connection.specs.Tables.{connection_at, job_at, in_bay, with_job, handles_of, parts_of}
 use Rattle.connection.specs.declared.kinds.Bay.{Bay}
-use Rattle.connection.specs.declared.tables.Connection.{Connection}
 use Rattle.connection.specs.declared.tables.Job.{Job}
 use Rattle.backend.specs.Segments.{released_all}
 use Rattle.backend.specs.Respond.{responded_memory}

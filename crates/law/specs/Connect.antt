@@ -1,7 +1,6 @@
 -- connect and disconnect.
-use Rattle.std.specs.Prelude.{ℕ, ◌+◌, ◌*◌, Bool, not, ltb, List, [], ◌∷◌, is_some, Some, None, Ok, Err, Option, Result}
+use Rattle.std.specs.Prelude.{ℕ, not, List, [], ◌∷◌, is_some, Some, None, Ok, Err, Result}
 use Rattle.std.specs.Option.{unwrap_or}
-use Rattle.abi.specs.declared.page.Kind.{Kind}
 use Rattle.abi.specs.declared.page.Kind.TheVariants.{Block}
 use Rattle.rules.specs.Refusal.{Rule, refuse_first, passed, if_some}
 use Rattle.grant.specs.Map.{Grant, map_verdict}

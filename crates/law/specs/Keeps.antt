@@ -27,7 +27,7 @@ use Rattle.answer.specs.declared.fault.HostFault.TheVariants.{InRing}
 use Rattle.answer.specs.declared.reply.Answer.TheVariants.{Port}
 use Rattle.law.specs.World.{World, with_memory}
 use Rattle.law.specs.Call.{Call, Next, domain, Reply}
-use Rattle.law.specs.Step.{Ends, step}
+use Rattle.law.specs.Step.{step}
 use Rattle.law.specs.Account.{Account, MappingNote, ConnectionNote, JobNote}
 
 -- one step of a run: a call, its answer, what it found and what it left

@@ -1,5 +1,5 @@
 -- serve: a request is taken off its ring, and either handed to the device or answered at once.
-use Rattle.std.specs.Prelude.{ℕ, Bool, cond, ◌||◌, List, Some, Ok, Err, Result}
+use Rattle.std.specs.Prelude.{ℕ, cond, ◌||◌, List, Some, Ok, Err, Result}
 use Rattle.rules.specs.Refusal.{if_some, either_of}
 use Rattle.device.specs.Meaning.{Rules, is_full, accepting}
 use Rattle.ringpage.specs.declared.slot.Request.{Request}

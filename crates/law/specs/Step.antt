@@ -1,6 +1,6 @@
 -- Each call's step: what it answers and what it leaves.
 use Rattle.std.specs.Prelude.{ℕ, ◌+◌, ◌-◌, ◌*◌, Bool, false, cond, not, ◌||◌, List, [], ◌∷◌, length, Some, None, Ok, Err, Option, Result, ◌==◌, nat_lt}
-use Rattle.rules.specs.Refusal.{Rule, refuse_first, after_ok, either_of, if_some}
+use Rattle.rules.specs.Refusal.{Rule, refuse_first, after_ok, either_of}
 use Rattle.device.specs.Meaning.{Rules}
 use Rattle.frame.specs.Owners.{take_rules, give_rules, with_owner}
 use Rattle.frame.specs.Access.{access_rules}

@@ -1,5 +1,5 @@
 -- The laws of a layout, for every width: what is written is read again, and what is read is written again.
-use Rattle.std.proofs.Common.{◌≡◌, ℕ, zero, suc, ◌+◌, ◌-◌, ◌*◌, ◌/◌, ◌%◌, ◌^◌, ◌<◌, ◌≤◌, List, [], ◌∷◌, ◌++◌, length, get_or, take, drop, replicate, sym, refl, ap, ◌∙◌, subst, ap₂, pow-suc, arith}
+use Rattle.std.proofs.Common.{◌≡◌, ℕ, zero, suc, ◌+◌, ◌*◌, ◌/◌, ◌%◌, ◌^◌, ◌<◌, ◌≤◌, List, [], ◌∷◌, ◌++◌, length, get_or, take, drop, replicate, sym, refl, ap, ◌∙◌, subst, ap₂, pow-suc, arith}
 use Rattle.std.proofs.lemmas.List.{append_assoc, get_or_at, get_or-take, get_or-drop, drop_more, length_push, length-append, length-replicate}
 use Rattle.layout.specs.Message.{Message, Decoded, Encoded}
 use Rattle.layout.specs.Layout.{le, bytes_from, number, Part, field, gap, written, read_at, covered_at, read, covered, Fit, size}

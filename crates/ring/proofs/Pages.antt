@@ -1,5 +1,5 @@
 -- What is read from a page, and what is written into it, by the part of memory that it is.
-use Rattle.std.proofs.Common.{◌≡◌, ℕ, ◌+◌, ◌*◌, List, length, ℤ, Ok, Err, Result, sym, refl, ap, ◌∙◌, subst, arith}
+use Rattle.std.proofs.Common.{◌≡◌, ℕ, ◌+◌, ◌*◌, List, length, ℤ, Ok, Result, sym, ap, ◌∙◌, subst}
 use Rattle.abi.specs.Page.{slot_start, slot_size}
 use Rattle.abi.specs.declared.page.Kind.{Kind}
 use Rattle.ringpage.specs.Slot.{request_at}

@@ -1,6 +1,6 @@
 -- A ring page inside the memory, by its frame.
-use Rattle.std.specs.Prelude.{◌≡◌, ℕ, ◌+◌, ◌*◌, List, ◌++◌, length, replicate, Result}
-use Rattle.layout.specs.Layout.{number, le, written}
+use Rattle.std.specs.Prelude.{ℕ, ◌+◌, ◌*◌, List, ◌++◌, length, replicate, Result}
+use Rattle.layout.specs.Layout.{number, written}
 use Rattle.abi.specs.Page.{ring_header, slot_start, slot_size}
 use Rattle.abi.specs.declared.page.Kind.{Kind}
 use Rattle.ringpage.specs.Slot.{request_at}

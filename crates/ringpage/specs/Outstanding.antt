@@ -1,5 +1,5 @@
 -- The requests that are produced and not yet answered.
-use Rattle.std.specs.Prelude.{◌≡◌, ℕ, ◌+◌, ◌-◌, ◌%◌, ◌^◌, ◌<◌, ◌≤◌, cond, Ok, Err, Result, nat_le}
+use Rattle.std.specs.Prelude.{◌≡◌, ℕ, ◌-◌, ◌^◌, ◌<◌, ◌≤◌, cond, Ok, Err, Result, nat_le}
 use Rattle.abi.specs.Index.{distance, shown}
 use Rattle.abi.specs.Page.{slots}
 use Rattle.abi.specs.declared.page.Kind.{Kind}

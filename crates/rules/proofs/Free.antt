@@ -1,5 +1,5 @@
 -- The first free place is free.
-use Rattle.std.proofs.Common.{◌≡◌, ℕ, suc, ◌+◌, ◌<◌, List, [], ◌∷◌, length, get_or, Some, None, Option, refl, arith}
+use Rattle.std.proofs.Common.{◌≡◌, ℕ, suc, ◌+◌, ◌<◌, List, [], ◌∷◌, length, Some, None, Option, refl, arith}
 use Rattle.rules.specs.Tables.{at, first_free}
 
 pub first_free_is : {X : Type 0} (xs : List (Option X)) (k h : ℕ) → first_free k xs ≡ Some h → (j : ℕ) × (h ≡ k + j) × (j < length xs) × (at xs j ≡ None)

@@ -1,5 +1,5 @@
 -- What a command says, and what a line of words may be read as.
-use Rattle.std.specs.Prelude.{◌≡◌, ℕ, ◌-◌, ◌<◌, Bool, true, false, List, [], ◌∷◌, IfOk, Some, None, Ok, Err, Option, Result, MatchResult, ◌≢◌}
+use Rattle.std.specs.Prelude.{◌≡◌, ℕ, ◌-◌, ◌<◌, true, false, List, [], ◌∷◌, IfOk, Some, None, Ok, Err, Option, Result, MatchResult, ◌≢◌}
 use Rattle.script.specs.Verbs.{verb_name, takes}
 use Rattle.script.specs.declared.verb.Verb.{Verb}
 use Rattle.script.specs.declared.verb.Verb.TheVariants as verbs

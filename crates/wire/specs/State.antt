@@ -1,6 +1,6 @@
 -- What a wire means, and that it keeps what every device keeps.
-use Rattle.std.proofs.Common.{ap, lit<}
-use Rattle.std.specs.Prelude.{ℕ, ◌+◌, Bool, List, [], ◌∷◌, ◌++◌, map, length, take, drop, ℤ, pos, nat_lt, refl}
+use Rattle.std.proofs.Common.{lit<}
+use Rattle.std.specs.Prelude.{ℕ, Bool, List, [], ◌∷◌, ◌++◌, length, take, drop, ℤ, pos, nat_lt, refl}
 use Rattle.std.proofs.lemmas.List.Edits.{sets}
 use Rattle.device.specs.declared.orders.Direction.{Direction}
 use Rattle.device.specs.declared.orders.Direction.TheVariants.{Inward, Outward}

@@ -1,6 +1,5 @@
-use Rattle.std.proofs.Common.{◌≡◌, ◌+◌, ◌-◌, ◌*◌, ◌≤◌, length, sym, refl, ◌∙◌, subst, arith}
-use borrow.Rule.Slice.PartMut.{put_mid}
-use Rattle.frame.specs.Memory.{placed, OthersKept}
+use Rattle.std.proofs.Common.{◌≡◌, ◌+◌, ◌-◌, ◌*◌, length, sym, subst, arith}
+use Rattle.frame.specs.Memory.{OthersKept}
 use Rattle.frame.proofs.Placing.{put_is_placed, placed_in_frame, part_granted}
 use Rattle.frame.proofs.memory.write_part.Goals as goal
 

@@ -1,4 +1,4 @@
-use Rattle.std.proofs.Common.{◌≡◌, ◌+◌, ◌*◌, refl, ap, arith}
+use Rattle.std.proofs.Common.{◌+◌, ◌*◌, refl, ap, arith}
 use Rattle.layout.proofs.Codec.{in_place}
 use Rattle.blkif.specs.Block.{block_request}
 use Rattle.netif.specs.Send.{send_request}

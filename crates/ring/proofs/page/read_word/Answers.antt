@@ -1,9 +1,8 @@
-use Rattle.std.proofs.Common.{◌≡◌, ◌+◌, ◌*◌, length, Ok, sym, refl, ap, ◌∙◌, arith}
+use Rattle.std.proofs.Common.{◌≡◌, ◌+◌, ◌*◌, length, Ok, ap, ◌∙◌, arith}
 use Rattle.layout.specs.Layout.{number}
 use Rattle.layout.proofs.Codec.{number_cut}
 use Rattle.rules.specs.Refusal.{granting}
 use Rattle.frame.specs.Memory.{part_verdict}
-use Rattle.ring.specs.Page.{offset_of}
 use Rattle.ring.proofs.page.read_word.Goals as goal
 
 pub returns : goal.returns

@@ -1,4 +1,4 @@
-use Rattle.std.proofs.Common.{◌≡◌, ℕ, ◌%◌, ◌^◌, List, ℤ, refl, ap, ◌∙◌, w16, SFits, to_z, of_z, rules}
+use Rattle.std.proofs.Common.{ℕ, ◌%◌, ◌^◌, List, ℤ, ap, ◌∙◌, w16, SFits, to_z, of_z, rules}
 use Rattle.std.proofs.lemmas.Nat.{and_mask}
 use Rattle.std.proofs.lemmas.Int.{to_z-of_z}
 use Rattle.layout.specs.Layout.{written}

@@ -1,4 +1,4 @@
-use Rattle.std.proofs.Common.{Bool, length, sym, ◌∙◌}
+use Rattle.std.proofs.Common.{Bool, sym, ◌∙◌}
 use Rattle.std.proofs.lemmas.List.{at_drop_more, at_drop_all}
 use Rattle.std.proofs.lemmas.Bool.{cond-true, cond-false}
 use Rattle.device.specs.Meaning.{first_of}

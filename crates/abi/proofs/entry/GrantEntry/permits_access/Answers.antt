@@ -1,4 +1,4 @@
-use Rattle.std.proofs.Common.{eqb, ap, ◌∙◌, rules}
+use Rattle.std.proofs.Common.{eqb, ap}
 use Rattle.std.proofs.lemmas.Nat.{and_mask}
 use Rattle.abi.proofs.entry.GrantEntry.permits_access.Goals as goal
 

@@ -1,4 +1,4 @@
-use Rattle.std.proofs.Common.{◌≡◌, ◌^◌, ◌<◌, [], ◌∷◌, get_or, refl, ap, ◌∙◌, arith, w16, to_z, of_z, rules}
+use Rattle.std.proofs.Common.{◌≡◌, ◌^◌, ◌<◌, [], ◌∷◌, get_or, ap, arith, w16, to_z, of_z, rules}
 use Rattle.std.proofs.lemmas.Int.{of_z-to_z}
 use Rattle.layout.specs.Layout.{read, number}
 use Rattle.blkif.specs.Block.{block_response}

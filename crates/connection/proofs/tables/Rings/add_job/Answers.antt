@@ -1,4 +1,4 @@
-use Rattle.std.proofs.Common.{Some, None, sym, ap}
+use Rattle.std.proofs.Common.{Some, sym, ap}
 use Rattle.std.proofs.lemmas.List.{set_past}
 use Rattle.connection.specs.declared.tables.Rings.{Rings}
 use Rattle.connection.proofs.tables.Rings.add_job.Goals as goal

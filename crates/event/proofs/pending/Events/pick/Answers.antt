@@ -1,4 +1,4 @@
-use Rattle.std.proofs.Common.{◌≡◌, ◌^◌, ◌<◌, cond, get_or, Some, None, sym, refl, ap, arith, rules}
+use Rattle.std.proofs.Common.{◌^◌, ◌<◌, cond, get_or, Some, None, sym, ap, arith, rules}
 use Rattle.std.proofs.lemmas.Bool.{ne_eqb}
 use Rattle.event.specs.Pending.{pick}
 use Rattle.event.proofs.Bits.{picks}

@@ -1,4 +1,4 @@
-use Rattle.std.proofs.Common.{Some, None, sym, ap, arith}
+use Rattle.std.proofs.Common.{None, sym, ap}
 use Rattle.std.proofs.lemmas.List.{set_past}
 use Rattle.frame.specs.declared.owners.Frames.{Frames}
 use Rattle.frame.proofs.owners.Frames.release.Goals as goal

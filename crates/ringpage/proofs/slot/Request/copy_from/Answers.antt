@@ -1,6 +1,4 @@
-use Rattle.std.proofs.Common.{◌≡◌, ℕ, ◌+◌, ◌-◌, ◌≤◌, List, take, drop, sym, ap, ◌∙◌, subst, arith}
-use Rattle.layout.specs.Layout.{read, read_at, size}
-use Rattle.layout.specs.Message.{Message}
+use Rattle.std.proofs.Common.{◌≡◌, ℕ, ◌+◌, ◌-◌, List, sym, ap, subst, arith}
 use Rattle.blkif.specs.Block.{block_request}
 use Rattle.netif.specs.Send.{send_request}
 use Rattle.netif.specs.Receive.{receive_request}
