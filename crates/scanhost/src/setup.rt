@@ -52,28 +52,51 @@ fn check(disk: &[u8]) -> Result<Answer, HostFault> {
     }
 }
 
+// Another disk in place of this one, where the check accepts it.
+fn change_disk(
+    rt: &HostRuntime,
+    script: &mut Script,
+    disk: &mut Vec<u8>,
+    count: u32,
+) -> Result<(), Failure> {
+    let bytes = sectors(rt.alloc(), count)?;
+    let checked = check(bytes.as_slice());
+    script.answer(rt, parts_of(checked), &[])?;
+    if checked.is_ok() {
+        *disk = bytes;
+    }
+    Ok(())
+}
+
+// A host and its memory, or nothing where they are refused.
+fn try_start(
+    rt: &HostRuntime,
+    script: &mut Script,
+    count: u32,
+) -> Result<Option<(Host, Vec<u8>)>, Failure> {
+    let memory = frames(rt.alloc(), count)?;
+    match Host::start(count, memory.as_slice()) {
+        Ok(host) => {
+            script.answer(rt, parts_of(Ok(Answer::Done)), &[])?;
+            Ok(Some((host, memory)))
+        }
+        Err(fault) => {
+            script.answer(rt, parts_of(Err(fault)), &[])?;
+            Ok(None)
+        }
+    }
+}
+
 /// Reads lines until a host has started; nothing where the script ends before. A refused line may be tried again.
 pub(crate) fn start(rt: &HostRuntime, script: &mut Script) -> Result<Option<Machine>, Failure> {
     let mut disk = sectors(rt.alloc(), SECTORS)?;
     for _ in 0..u64::MAX {
         match script.next(rt)? {
             None => break,
-            Some(Command::Disk { sectors: count }) => {
-                let bytes = sectors(rt.alloc(), count)?;
-                let checked = check(bytes.as_slice());
-                script.answer(rt, parts_of(checked), &[])?;
-                if checked.is_ok() {
-                    disk = bytes;
-                }
-            }
+            Some(Command::Disk { sectors: count }) => change_disk(rt, script, &mut disk, count)?,
             Some(Command::Start { frames: count }) => {
-                let memory = frames(rt.alloc(), count)?;
-                match Host::start(count, memory.as_slice()) {
-                    Ok(host) => {
-                        script.answer(rt, parts_of(Ok(Answer::Done)), &[])?;
-                        return Ok(Some(Machine { host, memory, disk }));
-                    }
-                    Err(fault) => script.answer(rt, parts_of(Err(fault)), &[])?,
+                if let Some((host, memory)) = try_start(rt, script, count)? {
+                    return Ok(Some(Machine { host, memory, disk }));
                 }
             }
             Some(_) => return Err(Failure::NotStarted),
