@@ -2,10 +2,10 @@
 use Rattle.std.specs.Prelude.{ℕ, ℤ, pos, Ok, Err, Result}
 use Rattle.abi.specs.Status.{grant_number}
 use Rattle.abi.specs.declared.status.GrantStatus.TheVariants.{BadDomain, BadVirtAddr}
-use Rattle.frame.specs.Fault.{fault_number as frame-fault-number}
-use Rattle.grant.specs.Fault.{fault_number as grant-fault-number}
-use Rattle.event.specs.Fault.{fault_number as event-fault-number}
-use Rattle.ring.specs.Fault.{fault_number as ring-fault-number, layer_of}
+use Rattle.frame.specs.Fault.{fault_number as frame_fault_number}
+use Rattle.grant.specs.Fault.{fault_number as grant_fault_number}
+use Rattle.event.specs.Fault.{fault_number as event_fault_number}
+use Rattle.ring.specs.Fault.{fault_number as ring_fault_number, layer_of}
 use Rattle.ring.specs.declared.fault.Layer.{Layer as RingsLayer}
 use Rattle.ring.specs.declared.fault.Layer.TheVariants.{InGrant as InGrantLayer, InDevice as InDeviceLayer, InRing as InRingLayer}
 use Rattle.ring.specs.declared.fault.RingFault.{RingFault}
@@ -21,10 +21,10 @@ use Rattle.answer.specs.declared.parts.AnswerParts.{AnswerParts}
 abbrev pub fault_number : HostFault → ℤ
 fault_number BadMemory = grant_number BadVirtAddr
 fault_number BadCaller = grant_number BadDomain
-fault_number (InFrame e) = frame-fault-number e
-fault_number (InGrant e) = grant-fault-number e
-fault_number (InEvent e) = event-fault-number e
-fault_number (InRing e) = ring-fault-number e
+fault_number (InFrame e) = frame_fault_number e
+fault_number (InGrant e) = grant_fault_number e
+fault_number (InEvent e) = event_fault_number e
+fault_number (InRing e) = ring_fault_number e
 
 abbrev pub of_ring : RingsLayer → Layer
 of_ring InGrantLayer = OfGrant
@@ -55,7 +55,7 @@ given_parts (Port p) = plain p
 given_parts (Connected c) = plain c
 given_parts Idle = plain 0
 given_parts HandedOver = plain 1
-given_parts (AnsweredNow f) = record { answer = pos 2; layer = ring_layer f.fault; detail = ring-fault-number f.fault; place = f.place }
+given_parts (AnsweredNow f) = record { answer = pos 2; layer = ring_layer f.fault; detail = ring_fault_number f.fault; place = f.place }
 given_parts Completed = plain 1
 
 -- a refusal has its number in answer and detail

@@ -4,8 +4,8 @@ use Rattle.abi.specs.Status.{grant_number, errno_number, house_number}
 use Rattle.abi.specs.declared.status.GrantStatus.TheVariants.{BadHandle}
 use Rattle.abi.specs.declared.status.Errno.TheVariants.{Einval, Enospc}
 use Rattle.abi.specs.declared.status.HouseStatus.TheVariants.{Busy as BusyNumber, BadRingIndex}
-use Rattle.grant.specs.Fault.{fault_number as grant-fault-number}
-use Rattle.device.specs.Fault.{fault_number as device-fault-number}
+use Rattle.grant.specs.Fault.{fault_number as grant_fault_number}
+use Rattle.device.specs.Fault.{fault_number as device_fault_number}
 use Rattle.ring.specs.declared.fault.Layer.{Layer}
 use Rattle.ring.specs.declared.fault.Layer.TheVariants.{InGrant, InDevice, InRing}
 use Rattle.ring.specs.declared.fault.RingFault.{RingFault}
@@ -33,8 +33,8 @@ fault_number BadCount = refused
 fault_number BadSegment = refused
 fault_number BadSpan = refused
 fault_number Unfit = refused
-fault_number (OfGrant e) = grant-fault-number e
-fault_number (OfDevice e) = device-fault-number e
+fault_number (OfGrant e) = grant_fault_number e
+fault_number (OfDevice e) = device_fault_number e
 
 -- what the guest is told of a request that met the fault
 abbrev pub status_of : RingFault → ℤ

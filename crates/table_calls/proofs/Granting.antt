@@ -8,18 +8,18 @@ use Rattle.backend.specs.declared.tables.Tables.{Tables}
 use Rattle.table_calls.specs.Parts.{heard, GrantedBy, Untouched}
 
 module _ {T E : Type 0} (rules : List (Rule HostFault)) (g : E → HostFault) (verdict : Result T E) (answers : T → Answer)
-    (H : Tables) (m : List ℕ) (tables-by : T → Tables) (memory-by : T → List ℕ) where
+    (H : Tables) (m : List ℕ) (tables_by : T → Tables) (memory_by : T → List ℕ) where
   -- no rule held, and the verdict grants t
   pub granted : (t : T) (r : Result Answer HostFault) (H' : Tables) (m' : List ℕ)
       → Ok tt ≡ refuse_first {T = Unit} rules (Ok tt) → Ok t ≡ verdict
-      → r ≡ Ok (answers t) → H' ≡ tables-by t → m' ≡ memory-by t
-      → GrantedBy rules g verdict answers H m tables-by memory-by r H' m'
+      → r ≡ Ok (answers t) → H' ≡ tables_by t → m' ≡ memory_by t
+      → GrantedBy rules g verdict answers H m tables_by memory_by r H' m'
   granted t r H' m' free ok answer tables memory =
       let v : Ok t ≡ heard rules g verdict = ap (passed g) ok ∙ ap (λ (a : Result Unit HostFault). and_then a (λ _. passed g verdict)) free in
       record {
         answer = answer ∙ ap (granting answers) v;
-        tables = tables ∙ ap (λ a. after_ok a H tables-by) v;
-        memory = memory ∙ ap (λ a. after_ok a m memory-by) v;
+        tables = tables ∙ ap (λ a. after_ok a H tables_by) v;
+        memory = memory ∙ ap (λ a. after_ok a m memory_by) v;
       }
 
 -- a refused load leaves the buffer alone

@@ -24,11 +24,11 @@ abbrev pub heard : {T E : Type 0} → List (Rule HostFault) → (E → HostFault
 heard rules g verdict = and_then (refuse_first {T = Unit} rules (Ok tt)) (λ _. passed g verdict)
 
 -- the tables and the memory become what the verdict's grant makes of them, or stay
-pub record GrantedBy {T E : Type 0} (rules : List (Rule HostFault)) (g : E → HostFault) (verdict : Result T E) (answers : T → Answer) (H : Tables) (m : List ℕ) (tables-by : T → Tables) (memory-by : T → List ℕ)
+pub record GrantedBy {T E : Type 0} (rules : List (Rule HostFault)) (g : E → HostFault) (verdict : Result T E) (answers : T → Answer) (H : Tables) (m : List ℕ) (tables_by : T → Tables) (memory_by : T → List ℕ)
     (r : Result Answer HostFault) (H' : Tables) (m' : List ℕ) : Type 0 where
   pub answer : r ≡ granting answers (heard rules g verdict)
-  pub tables : H' ≡ after_ok (heard rules g verdict) H tables-by
-  pub memory : m' ≡ after_ok (heard rules g verdict) m memory-by
+  pub tables : H' ≡ after_ok (heard rules g verdict) H tables_by
+  pub memory : m' ≡ after_ok (heard rules g verdict) m memory_by
 
 -- whether a guest may load so many bytes
 abbrev pub load_verdict : Tables → ℕ → ℕ → ℕ → ℕ → Result Unit FrameFault
