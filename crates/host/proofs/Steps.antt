@@ -41,12 +41,12 @@ module _ {M N : Type 0} (R : Rules M) (S : Rules N) where
 
   -- a call on the tables and the memory
   module _ {T E : Type 0} (rules : List (Rule HostFault)) (g : E → HostFault) (verdict : Result T E) (answers : T → Answer)
-      (H : Tables) (m : List ℕ) (x : M) (y : N) (tables-by : T → Tables) (memory-by : T → List ℕ) where
+      (H : Tables) (m : List ℕ) (x : M) (y : N) (tables_by : T → Tables) (memory_by : T → List ℕ) where
     abbrev before : World M N
     before = record { host = H; memory = m; bay0 = x; bay1 = y }
 
     abbrev after : T → World M N
-    after t = record { host = tables-by t; memory = memory-by t; bay0 = x; bay1 = y }
+    after t = record { host = tables_by t; memory = memory_by t; bay0 = x; bay1 = y }
 
     abbrev ends : Ends M N
     ends = unless_refused rules before (by_verdict g verdict before answers after)
@@ -54,7 +54,7 @@ module _ {M N : Type 0} (R : Rules M) (S : Rules N) where
     same_ends : (a : Result Unit HostFault) (d : Result T E)
         → ◌≡◌ {A = Ends M N} (record {
           answer = told (granting answers (and_then a (λ _. passed g d)));
-          world = record { host = after_ok (and_then a (λ _. passed g d)) H tables-by; memory = after_ok (and_then a (λ _. passed g d)) m memory-by; bay0 = x; bay1 = y };
+          world = record { host = after_ok (and_then a (λ _. passed g d)) H tables_by; memory = after_ok (and_then a (λ _. passed g d)) m memory_by; bay0 = x; bay1 = y };
         }) (either_of a (λ _. by_verdict g d before answers after) (λ f. record { answer = told (Err f); world = before }))
     same_ends (Ok u) (Ok t) = refl
     same_ends (Ok u) (Err e) = refl
@@ -62,7 +62,7 @@ module _ {M N : Type 0} (R : Rules M) (S : Rules N) where
 
     pub kept_by : Laws R → Laws S → (c : Call) (r : Result Answer HostFault) (H' : Tables) (m' : List ℕ)
         → step R S pick before c ≡ ends
-        → GrantedBy rules g verdict answers H m tables-by memory-by r H' m'
+        → GrantedBy rules g verdict answers H m tables_by memory_by r H' m'
         → Kept R S pick before c (told r) (record { host = H'; memory = m'; bay0 = x; bay1 = y })
     kept_by lr ls c r H' m' is parts =
         let same = same_ends (refuse_first rules (Ok tt)) verdict in
