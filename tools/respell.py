@@ -21,7 +21,7 @@ DECLARED = re.compile(r"(?m)^( *)((?:abbrev |unfoldable |pub |data |record |rule
 MADE = re.compile(r"(?m)^ *(?:pub )?(?:record|data) ([^\s(){}.;,]+)")
 # Names of the library that stand as the head of a name in our lemmas.
 LIBRARY = """length append take drop replicate get_or set map sum_by count_by pow le number""".split()
-# Where the plain rule would meet another name, or where the library has a new name for a word in ours.
+# Where the library has a new name for a word in ours, and names that no declaration at the head of a line shows.
 OVER = {
     "getD-row": "get_or-row",
     "sumBy-map": "sum_by-map",
@@ -29,6 +29,13 @@ OVER = {
     "In-order": "InOrder",
     "Seen-same": "SeenSame",
     "Books-after": "BooksAfter",
+    "frame-fault-number": "frame_fault_number",
+    "grant-fault-number": "grant_fault_number",
+    "event-fault-number": "event_fault_number",
+    "device-fault-number": "device_fault_number",
+    "ring-fault-number": "ring_fault_number",
+    "tables-by": "tables_by",
+    "memory-by": "memory_by",
 }
 
 
