@@ -3,4 +3,4 @@
 
 mod tables;
 
-pub use tables::{first_free, front};
+pub use tables::{at, first_free, front, put};

@@ -1,6 +1,6 @@
 // Tables of places that are free or taken.
-ghost use Rattle.std.specs.Prelude.{◌≡◌, ◌<◌, length, take, IfSome};
-ghost use Rattle.rules.specs.Tables.{first_free};
+ghost use Rattle.std.specs.Prelude.{◌≡◌, ◌<◌, length, take, IfSome, slice_set};
+ghost use Rattle.rules.specs.Tables.{at, first_free};
 
 /// The first free place of a table.
 pub fn first_free<T>(table: &[Option<T>]) -> Option<usize>
@@ -13,6 +13,22 @@ pub fn first_free<T>(table: &[Option<T>]) -> Option<usize>
         }
     }
     None
+}
+
+/// What stands in a place of a table; past its end nothing does.
+pub fn at<T: Copy>(table: &[Option<T>], place: usize) -> Option<T>
+    ensures { result ≡ at table.now place }
+{
+    table.get(place).copied().flatten()
+}
+
+/// Puts a value into a place of a table; past its end it goes nowhere.
+pub fn put<T: Copy>(table: &mut [T], place: usize, value: T)
+    ensures { table.new ≡ slice_set table.old place value }
+{
+    if place < table.len() {
+        table[place] = value;
+    }
 }
 
 /// The first `count` places of a table, or all where it has not so many.
