@@ -4,11 +4,13 @@
 mod entry;
 mod examples;
 mod index;
+mod kind;
 mod page;
 mod status;
 
 pub use entry::{GTF_READING, GTF_READONLY, GTF_WRITING, GrantEntry};
 pub use examples::{Examples, worked_examples};
 pub use index::{advance, distance};
+pub use kind::NoKind;
 pub use page::{Kind, PAGE_SIZE, RingHeader};
 pub use status::{Errno, GrantStatus, HouseStatus};

@@ -1,5 +1,6 @@
 -- Connections by number, and jobs by ticket: two to a connection.
-use Rattle.std.specs.Prelude.{ℕ, ◌+◌, ◌*◌, Bool, true, false, cond, ◌&&◌, ◌||◌, List, take, replicate, is_some, Some, None, Option, ◌==◌, nat_lt, slice_set}
+use Rattle.std.specs.Prelude.{ℕ, ◌+◌, ◌*◌, Bool, true, false, cond, ◌&&◌, ◌||◌, List, take, replicate, is_some, Some, None, Option, nat_lt, slice_set}
+pub use Rattle.abi.specs.Kinds.{kind_numbered}
 use Rattle.abi.specs.declared.page.Kind.{Kind}
 use Rattle.abi.specs.declared.page.Kind.TheVariants.{Block, Send, Receive}
 use Rattle.device.specs.declared.transfer.Part.{Part}
@@ -10,11 +11,12 @@ use Rattle.connection.specs.declared.tables.Connection.{Connection}
 use Rattle.connection.specs.declared.tables.Job.{Job}
 use Rattle.connection.specs.declared.tables.Rings.{Rings}
 
--- kind 0 is block, 1 send, 2 receive
-abbrev pub kind_numbered : ℕ → Option Kind
-kind_numbered n = cond (n == 0) (Some Block) (cond (n == 1) (Some Send) (cond (n == 2) (Some Receive) None))
-
 -- bay 0 has the block device, bay 1 the network device
+abbrev pub bay_number : Bay → ℕ
+bay_number BlockBay = 0
+bay_number NetBay = 1
+
+-- the bay whose device serves rings of this kind
 abbrev pub bay_of : Kind → Bay
 bay_of Block = BlockBay
 bay_of Send = NetBay

@@ -1,25 +1,32 @@
-// Kinds of rings by their numbers, and the bay whose device serves each.
-ghost use Rattle.std.specs.Prelude.{◌≡◌};
-ghost use Rattle.connection.specs.Tables.{kind_numbered, bay_of};
+// The two bays for devices, their numbers, and which of them serves each kind of ring.
+ghost use Rattle.std.specs.Prelude.{◌≡◌, ◌<◌, MatchResult};
+ghost use Rattle.connection.specs.Tables.{bay_number, bay_of};
 
 use abi::Kind;
 
 /// The two places for devices: the block device and the network device.
-#[derive(Clone, Copy)]
+#[derive(Clone, Copy, PartialEq, Eq)]
 pub enum Bay {
     BlockBay,
     NetBay,
 }
 
-/// The kind with this number, if there is one.
-pub fn kind_of(number: u32) -> Option<Kind>
-    ensures { result ≡ kind_numbered number }
-{
-    match number {
-        0 => Some(Kind::Block),
-        1 => Some(Kind::Send),
-        2 => Some(Kind::Receive),
-        _ => None,
+/// No bay has this number.
+#[derive(Clone, Copy)]
+pub struct NoBay;
+
+/// The bay that has this number, if one has.
+impl TryFrom<u32> for Bay {
+    type Error = NoBay;
+
+    ghost try_from_gives = { λ number r. MatchResult r (λ bay. bay_number bay ≡ number) (λ _. 1 < number) };
+
+    fn try_from(number: u32) -> Result<Bay, NoBay> {
+        match number {
+            0 => Ok(Bay::BlockBay),
+            1 => Ok(Bay::NetBay),
+            _ => Err(NoBay),
+        }
     }
 }
 

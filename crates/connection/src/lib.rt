@@ -5,5 +5,5 @@ mod kinds;
 mod rings;
 mod tables;
 
-pub use kinds::{Bay, bay_of, kind_of};
+pub use kinds::{Bay, NoBay, bay_of};
 pub use tables::{CONNECTIONS, Connection, JOBS, Job, Rings};

@@ -69,10 +69,11 @@ impl Host {
             (seen self.new memory.new (B.Device.meaning block.new) (N.Device.meaning net.new)) }
     {
         fitting(&self.tables, memory)?;
-        match bay {
-            0 => passed_up(driver::complete(&mut self.tables, memory, block, Bay::BlockBay)),
-            1 => passed_up(driver::complete(&mut self.tables, memory, net, Bay::NetBay)),
-            _ => Err(HostFault::InRing(RingFault::BadBay)),
+        match Bay::try_from(bay).map_err(|_| RingFault::BadBay)? {
+            Bay::BlockBay => {
+                passed_up(driver::complete(&mut self.tables, memory, block, Bay::BlockBay))
+            }
+            Bay::NetBay => passed_up(driver::complete(&mut self.tables, memory, net, Bay::NetBay)),
         }
     }
 }

@@ -1,2 +1,1 @@
 pub mod Dump
-pub mod Kinds

@@ -40,17 +40,13 @@ pub fn dump_page(rt: &impl Print, kind: Kind, page: &[u8; PAGE_SIZE]) -> Result<
     let header = header_of(page);
     println!(rt; "{}", HeaderLine { kind, header })?;
     let outstanding = outstanding_on(kind, header)?;
-    for k in 0..outstanding.count {
-        let index = outstanding.index(k);
-        let request = Request::copy_from(page, kind, index);
-        println!(rt;
-            "{}",
-            RequestLines {
-                index,
-                slot: kind.slot(index),
-                request
-            }
-        )?;
+    for index in (0..outstanding.count).map(|k| outstanding.index(k)) {
+        let lines = RequestLines {
+            index,
+            slot: kind.slot(index),
+            request: Request::copy_from(page, kind, index),
+        };
+        println!(rt; "{lines}")?;
     }
     Ok(())
 }

@@ -1,5 +1,4 @@
 // A ring page in words: a line for the header, and lines for each request.
-use crate::kinds::kind_name;
 use abi::{Kind, RingHeader};
 use ringpage::Request;
 use std::fmt;
@@ -13,8 +12,7 @@ pub struct HeaderLine {
 
 impl fmt::Display for HeaderLine {
     fn fmt<W: fmt::Write>(&self, f: &mut fmt::Formatter<W>) -> fmt::Result {
-        let kind = kind_name(self.kind);
-        let h = self.header;
+        let HeaderLine { kind, header: h } = self;
         write!(
             f,
             "header: kind {kind}, req_prod {}, req_event {}, rsp_prod {}, rsp_event {}",
@@ -33,9 +31,7 @@ pub struct RequestLines {
 
 impl fmt::Display for RequestLines {
     fn fmt<W: fmt::Write>(&self, f: &mut fmt::Formatter<W>) -> fmt::Result {
-        let index = self.index;
-        let slot = self.slot;
-        write!(f, "request {index} in slot {slot}: ")?;
+        write!(f, "request {} in slot {}: ", self.index, self.slot)?;
         match &self.request {
             Request::OfBlock(m) => {
                 write!(

@@ -16,22 +16,20 @@ Prints the header of a ring page and every request on it that is not yet answere
 KIND is block, send or receive; FILE holds one page of 4096 bytes.";
 
 fn list(rt: &HostRuntime, kind: Kind, path: &str) -> Result<(), Failure> {
-    let bytes = match fs::read(rt, path) {
-        Ok(bytes) => bytes,
-        Err(error) => return Err(Failure::Unreadable(String::from_str(rt.alloc(), path)?, error)),
-    };
-    match <&[u8; PAGE_SIZE]>::try_from(bytes.as_slice()) {
-        Ok(page) => Ok(dump_page(rt, kind, page)?),
-        Err(_) => Err(Failure::NotAPage(String::from_str(rt.alloc(), path)?, bytes.len())),
-    }
+    let bytes = fs::read(rt, path).try_map_err(|error| {
+        let path = String::from_str(rt.alloc(), path)?;
+        Ok(Failure::Unreadable(path, error))
+    })?;
+    let page = <&[u8; PAGE_SIZE]>::try_from(bytes.as_slice()).try_map_err(|_| {
+        let path = String::from_str(rt.alloc(), path)?;
+        Ok(Failure::NotAPage(path, bytes.len()))
+    })?;
+    Ok(dump_page(rt, kind, page)?)
 }
 
 fn run(rt: &HostRuntime) -> Result<(), Failure> {
-    let mut words = Vec::new(rt.alloc());
-    for word in env::args(rt)?.skip(1) {
-        words.push(word)?;
-    }
-    match parse(rt.alloc(), words.as_slice())? {
+    let words: Vec<String> = env::args(rt)?.skip(1).collect(rt.alloc())?;
+    match parse(words.as_slice())? {
         Command::Help => Ok(println!(rt; "{USAGE}")?),
         Command::List(kind, path) => list(rt, kind, path),
     }

@@ -16,7 +16,7 @@ use crate::callers::{fitting, guest};
 use abi::Kind;
 use answer::{Answer, HostFault};
 use backend::Tables;
-use connection::{Connection, kind_of};
+use connection::Connection;
 use event::{Events, Port};
 use frame::Domain;
 use grant::Granted;
@@ -41,9 +41,7 @@ fn may_connect(
     ensures kind { IfOk result (λ o. o.kind ≡ unwrap_or (kind_numbered kind) Block) }
     ensures number { IfOk result (λ o. o.number ≡ new_number tables.now) }
 {
-    let Some(kind) = kind_of(kind) else {
-        return Err(RingFault::BadKind);
-    };
+    let kind = Kind::try_from(kind).map_err(|_| RingFault::BadKind)?;
     let Some(number) = tables.rings.free_connection() else {
         return Err(RingFault::NoConnection);
     };

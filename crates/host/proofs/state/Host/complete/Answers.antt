@@ -1,4 +1,4 @@
-use Rattle.std.proofs.Common.{◌≡◌, true, cond, ltb, Ok, Err, ap, ◌∙◌, arith, rules}
+use Rattle.std.proofs.Common.{◌≡◌, ◌<◌, true, cond, ltb, Ok, Err, ap, ◌∙◌, arith, rules}
 use Rattle.std.proofs.lemmas.Result.{err_from_is_err_and}
 use Rattle.std.proofs.lemmas.Bool.Decides.{nat_tests}
 use Rattle.rules.specs.Refusal.{either_of}
@@ -18,30 +18,35 @@ returns-in_err-fitting g c =
     let p = err_from_is_err_and c.from_residual.result c.from_residual.ensures.1 in
     kept_refused b.rules n.rules b.laws n.laws _ _ _ _ (Complete c.args.bay) _ _ c.in_err-fitting.ensures.answer (p.1 ∙ ap Err p.2)
 
-pub returns-in-0 : goal.returns-in-0
+pub returns-in-BlockBay : goal.returns-in-BlockBay
 unfolding proceeds
-returns-in-0 g c =
+returns-in-BlockBay g c =
     let b = g.B.Device in
     let n = g.N.Device in
     let w = seen c.args.self.now c.args.memory.now (b.meaning c.args.block.now) (n.meaning c.args.net.now) in
+    let bay : c.args.bay ≡ 0 = search rules in
     kept_block b.rules n.rules b.laws n.laws _ _ _ _ (Complete c.args.bay) _ _ _ _ _ _ c.in_ok-fitting.ensures.answer
-    (ap (λ k. proceeds b.rules n.rules pick w (Complete k)) c.in-0.is) c.complete.ensures c.passed_up.ensures
+    (ap (λ k. proceeds b.rules n.rules pick w (Complete k)) bay) c.complete.ensures c.passed_up.ensures
 
-pub returns-in-1 : goal.returns-in-1
+pub returns-in-NetBay : goal.returns-in-NetBay
 unfolding proceeds
-returns-in-1 g c =
+returns-in-NetBay g c =
     let b = g.B.Device in
     let n = g.N.Device in
     let w = seen c.args.self.now c.args.memory.now (b.meaning c.args.block.now) (n.meaning c.args.net.now) in
+    let bay : c.args.bay ≡ 1 = search rules in
     kept_net b.rules n.rules b.laws n.laws _ _ _ _ (Complete c.args.bay) _ _ _ _ _ _ c.in_ok-fitting.ensures.answer
-    (ap (λ k. proceeds b.rules n.rules pick w (Complete k)) c.in-1.is) c.complete-in-1.ensures c.passed_up-in-1.ensures
+    (ap (λ k. proceeds b.rules n.rules pick w (Complete k)) bay) c.complete-in-NetBay.ensures c.passed_up-in-NetBay.ensures
 
-pub returns-in_default : goal.returns-in_default
+pub returns-in_err-map_err : goal.returns-in_err-map_err
 unfolding proceeds
-returns-in_default g c =
+returns-in_err-map_err g c =
     let b = g.B.Device in
     let n = g.N.Device in
     let w = seen c.args.self.now c.args.memory.now (b.meaning c.args.block.now) (n.meaning c.args.net.now) in
+    let refused : c.from_residual-in_err-map_err.result ≡ Err (InRing BadBay) = search rules in
+    let above : 1 < c.args.bay = search rules in
     let past : ltb 1 c.args.bay ≡ true = search (rules, arith, nat_tests) in
-    kept_barred b.rules n.rules b.laws n.laws _ _ _ _ (Complete c.args.bay) _ c.in_ok-fitting.ensures.answer
-    (ap (λ k. either_of (cond k (Err BadBay) (Ok tt)) (λ _. completed_in b.rules n.rules (bay_numbered c.args.bay) w) (λ e. record { answer = told (Err (InRing e)); world = w })) past)
+    rw refused
+    (kept_barred b.rules n.rules b.laws n.laws _ _ _ _ (Complete c.args.bay) _ c.in_ok-fitting.ensures.answer
+    (ap (λ k. either_of (cond k (Err BadBay) (Ok tt)) (λ _. completed_in b.rules n.rules (bay_numbered c.args.bay) w) (λ e. record { answer = told (Err (InRing e)); world = w })) past))
