@@ -77,17 +77,11 @@ impl<'a> Device for Wire<'a> {
         if self.hand.holds(order.ticket) {
             return Err(DeviceFault::TicketInHand);
         }
-        if !self.hand.push(order) {
-            return Err(DeviceFault::Full);
-        }
-        Ok(())
+        self.hand.push(order)
     }
 
     fn ready(&self) -> Option<u8> {
-        match self.next() {
-            Some(order) => Some(order.ticket),
-            None => None,
-        }
+        self.next().map(|order| order.ticket)
     }
 
     fn fill(&mut self, ticket: u8, at: u32, part: &mut [u8]) -> Result<(), DeviceFault> {
