@@ -1,6 +1,7 @@
 -- The orders in hand: taking one out, and what fits.
-use Rattle.std.proofs.Common.{◌≡◌, ℕ, suc, ◌+◌, ◌≤◌, Bool, true, false, cond, not, ◌&&◌, eqb, ltb, List, [], ◌∷◌, ◌++◌, length, Some, None, Ok, Option, sym, refl, ap, ◌∙◌, ⊎_elim, arith}
+use Rattle.std.proofs.Common.{◌≡◌, ℕ, suc, ◌+◌, ◌≤◌, Bool, true, false, cond, not, ◌&&◌, eqb, ltb, List, [], ◌∷◌, ◌++◌, length, Some, None, Ok, sym, refl, ap, ◌∙◌, ⊎_elim, arith}
 use Rattle.std.specs.List.{position_or_len, position, remove}
+use Rattle.std.proofs.lemmas.List.Folds.{list_all-append}
 use Rattle.std.proofs.lemmas.Bool.{and_parts, and_from, lt-ltb, le-ltb, cond-true, cond-false}
 use Rattle.std.proofs.lemmas.Bool.Decides.{nat_tests}
 use Rattle.rules.specs.Refusal.{if_some}
@@ -32,8 +33,7 @@ pub others-position : (t : ℕ) (os : List Order) → if_some (position (λ o. e
 others-position t os = there _ _ os (remove os) ∙ others-taken t os
 
 pub fit_push : (os : List Order) (o : Order) → all_fit os ≡ true → wire_fits o.direction o.place o.length ≡ true → all_fit (os ++ o ∷ []) ≡ true
-fit_push [] o h e = and_from _ _ e refl
-fit_push (p ∷ os) o h e = let parts = and_parts _ _ h in and_from _ _ parts.0 (fit_push os o parts.1 e)
+fit_push os o h e = list_all-append _ os (o ∷ []) ∙ and_from _ _ h (and_from _ _ e refl)
 
 fit_rest : (b : Bool) (o : Order) (os rest : List Order) → all_fit rest ≡ true → (wire_fits o.direction o.place o.length && all_fit os) ≡ true → all_fit (cond b os (o ∷ rest)) ≡ true
 fit_rest true o os rest h e = (and_parts _ _ e).1

@@ -66,9 +66,7 @@ impl Hand {
         ensures answer { result ≡ cond (length (orders_of self.old) == most_orders) (Err Full) (Ok tt) }
         ensures holds { orders_of self.new ≡ with_last most_orders (orders_of self.old) order }
     {
-        self.orders
-            .try_push(order)
-            .map_err(|_| DeviceFault::Full)
+        self.orders.try_push(order).map_err(|_| DeviceFault::Full)
     }
 
     /// Takes the first order with the ticket out, and keeps the others in their order.
