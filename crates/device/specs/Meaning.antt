@@ -1,5 +1,6 @@
 -- What a device means, and what each of its calls makes of that.
-use Rattle.std.specs.Prelude.{◌≡◌, ℕ, ◌+◌, Bool, true, false, cond, not, ◌||◌, List, [], ◌∷◌, length, ℤ, Some, None, Ok, Err, Option, Result, ◌==◌, nat_lt}
+use Rattle.std.specs.Prelude.{◌≡◌, ℕ, ◌+◌, Bool, true, false, cond, not, List, [], ◌∷◌, length, ℤ, Some, None, Ok, Err, Option, Result, ◌==◌, nat_lt}
+use Rattle.std.specs.List.{list_any, find}
 use Rattle.std.specs.Option.{option_map}
 use Rattle.rules.specs.Refusal.{refuse_first, after_ok, granting}
 use Rattle.device.specs.declared.orders.Direction.{Direction}
@@ -31,8 +32,7 @@ pub record Rules (M : Type 0) : Type 0 where
 
 -- whether one of the orders has the ticket t
 abbrev pub in_hand : ℕ → List Order → Bool
-in_hand t [] = false
-in_hand t (o ∷ os) = o.ticket == t || in_hand t os
+in_hand t os = list_any (λ o. o.ticket == t) os
 
 -- the orders but for the first under the ticket t
 abbrev pub others : ℕ → List Order → List Order
@@ -41,8 +41,7 @@ others t (o ∷ os) = cond (o.ticket == t) os (o ∷ others t os)
 
 -- the first order that passes a test
 abbrev pub first_of : (Order → Bool) → List Order → Option Order
-first_of p [] = None
-first_of p (o ∷ os) = cond (p o) (Some o) (first_of p os)
+first_of p os = find p os
 
 -- the two directions are the same
 abbrev pub same_way : Direction → Direction → Bool

@@ -4,7 +4,7 @@ ghost use Rattle.device.specs.Fault.{fault_number};
 
 use abi::{GrantStatus, HouseStatus};
 
-#[derive(Clone, Copy)]
+#[derive(Clone, Copy, Debug, PartialEq, Eq)]
 pub enum DeviceFault {
     /// The order, or the part asked for, does not fit.
     NoFit,

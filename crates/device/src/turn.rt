@@ -8,16 +8,8 @@ use crate::{DeviceFault, Direction, Order};
 pub fn on_turn(next: Option<Order>, ticket: u8) -> Result<Order, DeviceFault>
     ensures { result ≡ on_turn next ticket }
 {
-    match next {
-        Some(order) => {
-            if order.ticket == ticket {
-                Ok(order)
-            } else {
-                Err(DeviceFault::BadTicket)
-            }
-        }
-        None => Err(DeviceFault::BadTicket),
-    }
+    next.filter(|order| order.ticket == ticket)
+        .ok_or(DeviceFault::BadTicket)
 }
 
 /// That order, if it goes this way and has `size` bytes from `at` on.

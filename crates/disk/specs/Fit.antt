@@ -1,5 +1,6 @@
 -- Which orders and which memory a disk takes.
-use Rattle.std.specs.Prelude.{ℕ, ◌+◌, ◌*◌, ◌%◌, Bool, true, not, ◌&&◌, List, [], ◌∷◌, Ok, Result, ◌==◌, nat_le, nat_lt}
+use Rattle.std.specs.Prelude.{ℕ, ◌+◌, ◌*◌, ◌%◌, Bool, not, ◌&&◌, List, [], ◌∷◌, Ok, Result, ◌==◌, nat_le, nat_lt}
+use Rattle.std.specs.List.{list_all}
 use Rattle.rules.specs.Refusal.{refuse_first}
 use Rattle.device.specs.declared.orders.Order.{Order}
 use Rattle.device.specs.declared.fault.DeviceFault.{DeviceFault}
@@ -27,8 +28,7 @@ fits_in n place size = nat_lt 0 size && (size % sector_size == 0 && nat_le (sect
 
 -- the orders end within a disk of n bytes
 abbrev pub all_within : ℕ → List Order → Bool
-all_within n [] = true
-all_within n (o ∷ os) = nat_le (sector o.place + o.length) n && all_within n os
+all_within n os = list_all (λ o. nat_le (sector o.place + o.length) n) os
 
 -- 1 to 128 whole sectors of memory, and four slots
 abbrev pub checked : ℕ → ℕ → Result Unit DeviceFault

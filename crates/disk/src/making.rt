@@ -29,12 +29,9 @@ impl<'a> Disk<'a> {
     pub fn new(memory: &'a mut [u8], slots: &'a mut [Order]) -> Disk<'a>
         ensures { state result ≡ new_disk memory.old (length slots.old) }
     {
-        let size = match check(memory, slots) {
-            Ok(()) => memory.len(),
-            Err(_) => 0,
-        };
+        let size = check(memory, slots).map_or(0, |()| memory.len());
         let sectors = Sectors {
-            bytes: &mut memory[0..size],
+            bytes: &mut memory[..size],
         };
         let orders = Queue::new(slots);
         Disk { sectors, orders }

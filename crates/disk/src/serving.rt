@@ -15,14 +15,8 @@ use queue::Queue;
 fn holds(orders: &Queue<'_, Order>, ticket: u8) -> bool
     ensures { result ≡ in_hand ticket (items orders.now) }
 {
-    for i in 0..orders.len() {
-        if let Some(order) = orders.get(i) {
-            if order.ticket == ticket {
-                return true;
-            }
-        }
-    }
-    false
+    let (front, back) = orders.as_slices();
+    front.iter().chain(back).any(|order| order.ticket == ticket)
 }
 
 impl<'a> Device for Disk<'a> {
@@ -52,17 +46,11 @@ impl<'a> Device for Disk<'a> {
         if holds(&self.orders, order.ticket) {
             return Err(DeviceFault::TicketInHand);
         }
-        match self.orders.push(order) {
-            Ok(()) => Ok(()),
-            Err(_) => Err(DeviceFault::Full),
-        }
+        self.orders.push(order).map_err(|_| DeviceFault::Full)
     }
 
     fn ready(&self) -> Option<u8> {
-        match self.orders.front() {
-            Some(order) => Some(order.ticket),
-            None => None,
-        }
+        self.orders.front().map(|order| order.ticket)
     }
 
     fn fill(&mut self, ticket: u8, at: u32, part: &mut [u8]) -> Result<(), DeviceFault> {

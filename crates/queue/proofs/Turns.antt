@@ -1,11 +1,10 @@
 -- What a ring of slots holds after a write, and one place further on.
 use Rattle.std.proofs.Common.{◌≡◌, ℕ, zero, suc, ◌+◌, ◌-◌, ◌<◌, ◌≤◌, min, List, [], ◌∷◌, ◌++◌, length, get_or, take, drop, set, Some, sym, refl, ap, ◌∙◌, ⊎_elim, add-zero, arith}
 use native.Mathlib.Nat.{zero-sub}
-use lib.Seq.{take-set-lt}
-use Rattle.std.proofs.lemmas.List.{length-take, length-drop, length-append, append_assoc, append-nil, drop-set-add, drop-set-lt, take-set-le, set-append_left, set-append_right, take-append-le, get_or-take, get_or-drop, get_or_append_left, get_or-append_right, take_more_set, take_more, drop_more, take_all, drop_all, length-take-le}
+use lib.Seq.{take-set-lt, take-append-add}
+use Rattle.std.proofs.lemmas.List.{length-take, length-drop, length-append, append_assoc, append-nil, drop-set-add, drop-set-lt, take-set-le, set-append_left, set-append_right, take-append-le, take_more_set, take_more, drop_more, take_all, drop_all, take-take}
 use Rattle.std.proofs.lemmas.Bool.{cases_lt, lt-ltb, le-ltb, cond-true, cond-false}
 use Rattle.std.specs.List.{slice_get}
-use Rattle.std.proofs.lemmas.Option.{slice_get_read}
 use Rattle.queue.specs.Line.{along, turned, first}
 
 pub along_low : (h step n : ℕ) → step < n - h → along h step n ≡ h + step
@@ -17,9 +16,6 @@ along_high h step n le = cond-false _ _ _ (le-ltb step (n - h) le)
 module _ {T : Type 0} where
   pub length-turned : (h : ℕ) (xs : List T) → h ≤ length xs → length (turned h xs) ≡ length xs
   length-turned h xs le = simp (length-append, length-drop, length-take) (omega arith)
-
-  pub length-items : (h n : ℕ) (xs : List T) → h ≤ length xs → n ≤ length xs → length (take n (turned h xs)) ≡ n
-  length-items h n xs hl nl = length-take-le n (turned h xs) (omega (arith, length-turned h xs hl))
 
   set-low : (h n : ℕ) (xs : List T) (x : T) → h ≤ length xs → n < length xs - h → turned h (set xs (h + n) x) ≡ set (turned h xs) n x
   set-low h n xs x hl lt =
@@ -73,26 +69,6 @@ module _ {T : Type 0} where
       let below : n - 1 < length xs = omega arith in
       ap (λ k. take k (turned h xs)) one ∙ ap (take (suc (n - 1))) (turned-from h xs hl ∙ ap (λ j. turned j xs) (sym e) ∙ turned-here i xs x lt read) ∙ ap (λ ys. x ∷ ys) (sym (turned-next i (n - 1) xs x lt read below))
 
-  getD-turned : (h i : ℕ) (xs : List T) (d : T) → h ≤ length xs → i < length xs → get_or (turned h xs) i d ≡ get_or xs (along h i (length xs)) d
-  getD-turned h i xs d hl il =
-      ⊎_elim
-      (λ (low : i < length xs - h). let within : i < length (drop h xs) = simp length-drop (omega arith) in
-      get_or_append_left (drop h xs) (take h xs) d i within ∙ get_or-drop h xs i d ∙ ap (λ j. get_or xs j d) (sym (along_low h i (length xs) low)))
-      (λ (high : length xs - h ≤ i). let below : i - (length xs - h) < h = omega arith in
-      get_or-append_right (drop h xs) (take h xs) (length xs - h) i d (length-drop h xs) high ∙ get_or-take h xs (i - (length xs - h)) d below ∙ ap (λ j. get_or xs j d) (sym (along_high h i (length xs) high)))
-      (cases_lt i (length xs - h))
-
-  -- the item at i stands i places on
-  pub items_at : (h n i j : ℕ) (xs : List T) (x : T) → h ≤ length xs → n ≤ length xs → i < n → j ≡ along h i (length xs) → x ≡ get_or xs j x → slice_get (take n (turned h xs)) i ≡ Some x
-  items_at h n i j xs x hl nl il e read =
-      let lt : i < length xs = omega arith in
-      let here = read ∙ ap (λ k. get_or xs k x) e ∙ sym (getD-turned h i xs x hl lt) ∙ sym (get_or-take n (turned h xs) i x il) in
-      slice_get_read (take n (turned h xs)) n i x (sym (length-items h n xs hl nl)) il here
-
-  -- as many items as there are places, at most
-  pub length-take_min : (n : ℕ) (h : ℕ) (xs : List T) → length (take n (turned h xs)) ≡ min n (length xs)
-  length-take_min n h xs = simp (length-take, length-append, length-drop) (omega arith)
-
   take-length-take : (n : ℕ) (ys : List T) → take n ys ≡ take (length (take n ys)) ys
   take-length-take zero ys = refl
   take-length-take (suc n) [] = refl
@@ -105,6 +81,23 @@ module _ {T : Type 0} where
   -- and from another start of the same turn
   pub take_own : (n h k m : ℕ) (xs : List T) → m ≡ length (take n (turned h xs)) → turned h xs ≡ turned k xs → take n (turned h xs) ≡ take m (turned k xs)
   take_own n h k m xs e same = take_counted n m (turned h xs) e ∙ ap (take m) same
+
+  -- the items up to the last place, and those from the first place on
+  pub items_two : (h n f e k : ℕ) (xs : List T) → h ≤ length xs → n ≤ length xs → f ≡ min n (length xs - h) → e ≡ f → k ≡ n - f → take e (drop h xs) ++ take k xs ≡ take n (turned h xs)
+  items_two h n f e k xs hl nl fe ee ke =
+      let size : length (drop h xs) ≡ length xs - h = length-drop h xs in
+      ⊎_elim
+      (λ (few : n < length xs - h).
+      let all : e ≡ n = omega arith in
+      let none : k ≡ 0 = omega arith in
+      let le : n ≤ length (drop h xs) = omega arith in
+      ap (λ i. take i (drop h xs) ++ take k xs) all ∙ ap (λ i. take n (drop h xs) ++ take i xs) none ∙ append-nil (take n (drop h xs)) ∙ sym (take-append-le n (drop h xs) (take h xs) le))
+      (λ (many : length xs - h ≤ n).
+      let all : length (drop h xs) ≤ e = omega arith in
+      let sum : length (drop h xs) + k ≡ n = omega arith in
+      let le : k ≤ h = omega arith in
+      ap (λ ys. ys ++ take k xs) (take_all e (drop h xs) all) ∙ ap (λ ys. drop h xs ++ ys) (sym (take-take k h xs le)) ∙ sym (take-append-add (drop h xs) (take h xs) k) ∙ ap (λ i. take i (turned h xs)) sum)
+      (cases_lt n (length xs - h))
 
   -- what stands at a place that there is
   pub nth_default : (xs : List T) (i : ℕ) → i < length xs → (x : T) × (slice_get xs i ≡ Some x) × (x ≡ get_or xs i x)

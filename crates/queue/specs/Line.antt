@@ -44,15 +44,17 @@ abbrev pub StandsFirst : {T : Type 0} → Queue T → Option ℕ → Type 0
 StandsFirst q None = items q ≡ []
 StandsFirst q (Some i) = (i < length (slots_of q)) × (slice_get (slots_of q) i ≡ first (items q))
 
--- a push: a full line refuses it, and is as it was, slots and all
+-- a push: a full line refuses it, and is as it was, slots and all; the slots stay those that were lent
 pub record Pushed {T : Type 0} (before : Queue T) (x : T) (r : Result Unit QueueFault) (after : Queue T) : Type 0 where
   pub answer : r ≡ cond (is_full before) (Err Full) (Ok tt)
   pub holds : items after ≡ with_last (length (slots_of before)) (items before) x
   pub size : length (slots_of after) ≡ length (slots_of before)
   pub refused : is_full before ≡ true → after ≡ before
+  pub lent : after.slots.ghost_name ≡ before.slots.ghost_name
 
 -- a pop: the oldest item leaves, the others stay, and no slot is written; an empty line is as it was
 pub record Popped {T : Type 0} (before after : Queue T) : Type 0 where
   pub holds : items after ≡ rest (items before)
   pub slots : slots_of after ≡ slots_of before
   pub none : items before ≡ [] → after ≡ before
+  pub lent : after.slots.ghost_name ≡ before.slots.ghost_name

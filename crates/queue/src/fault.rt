@@ -4,7 +4,7 @@ ghost use Rattle.queue.specs.Fault.{fault_number};
 
 use abi::Errno;
 
-#[derive(Clone, Copy)]
+#[derive(Clone, Copy, Debug, PartialEq, Eq)]
 pub enum QueueFault {
     /// Every slot is taken.
     Full,

@@ -1,14 +1,15 @@
 // The line itself.
-ghost use Rattle.std.specs.Prelude.{◌≡◌, ◌<◌, ◌≤◌, [], length, is_some, slice_index_or};
+ghost use Rattle.std.specs.Prelude.{◌≡◌, ◌≤◌, [], ◌++◌, length, is_some};
 ghost use Rattle.std.specs.Option.{unwrap_or};
 ghost use Rattle.std.specs.List.{slice_get};
 ghost use Rattle.queue.specs.Line.{items, slots_of, turned, first, is_full, StandsFirst, Pushed, Popped};
 
 use crate::QueueFault;
-use crate::slots::{place, put, read, read_into};
+use crate::slots::place;
 
 /// A first-in-first-out line over lent slots.
-// No ghost field: every value of `head` and `len` means something, so a line may be part of any struct.
+// The slots are the caller's, and the items start where the last one left: so a start and a count, and no
+// container of the library's. No ghost field: every value of `head` and `len` means something, so a line may be part of any struct.
 #[derive(Drop)]
 pub struct Queue<'a, T> {
     slots: &'a mut [T],
@@ -69,6 +70,17 @@ impl<'a, T: Copy> Queue<'a, T> {
         Some(place(self.start(), 0, self.slots.len()))
     }
 
+    /// The items in place, the oldest first: those that stand up to the last slot, and those from
+    /// the first slot on.
+    pub fn as_slices(&self) -> (&[T], &[T])
+        ensures { result.0.now ++ result.1.now ≡ items self.now }
+    {
+        let len = self.len();
+        let head = self.start();
+        let front = len.min(self.slots.len() - head);
+        (&self.slots[head..head + front], &self.slots[..len - front])
+    }
+
     /// The item at `i`, the oldest at 0.
     pub fn get(&self, i: usize) -> Option<T>
         ensures { result ≡ slice_get (items self.now) i }
@@ -76,8 +88,7 @@ impl<'a, T: Copy> Queue<'a, T> {
         if i >= self.len() {
             return None;
         }
-        let at = place(self.start(), i, self.slots.len());
-        Some(self.at(at))
+        Some(self.slots[place(self.start(), i, self.slots.len())])
     }
 
     /// The oldest item.
@@ -89,16 +100,14 @@ impl<'a, T: Copy> Queue<'a, T> {
 
     /// Puts an item at the end.
     pub fn push(&mut self, item: T) -> Result<(), QueueFault>
-        ensures pushed { Pushed self.old item result self.new }
-        ensures lent { self.new.slots.ghost_name ≡ self.old.slots.ghost_name }
+        ensures { Pushed self.old item result self.new }
     {
         self.push_from(&item)
     }
 
     /// Puts a copy of an item at the end: one copy, however large the item.
     pub fn push_from(&mut self, item: &T) -> Result<(), QueueFault>
-        ensures pushed { Pushed self.old item.now result self.new }
-        ensures lent { self.new.slots.ghost_name ≡ self.old.slots.ghost_name }
+        ensures { Pushed self.old item.now result self.new }
     {
         let size = self.slots.len();
         let len = self.len();
@@ -107,7 +116,7 @@ impl<'a, T: Copy> Queue<'a, T> {
         }
         let head = self.start();
         let end = place(head, len, size);
-        put(self.slots, end, item);
+        self.slots[end] = *item;
         self.head = head;
         self.len = len + 1;
         Ok(())
@@ -117,7 +126,6 @@ impl<'a, T: Copy> Queue<'a, T> {
     pub fn pop(&mut self) -> Option<T>
         ensures answer { result ≡ first (items self.old) }
         ensures popped { Popped self.old self.new }
-        ensures lent { self.new.slots.ghost_name ≡ self.old.slots.ghost_name }
     {
         let item = self.front();
         self.discard();
@@ -129,12 +137,11 @@ impl<'a, T: Copy> Queue<'a, T> {
         ensures answer { result ≡ is_some (first (items self.old)) }
         ensures item { item.new ≡ unwrap_or (first (items self.old)) item.old }
         ensures popped { Popped self.old self.new }
-        ensures lent { self.new.slots.ghost_name ≡ self.old.slots.ghost_name }
     {
-        let Some(at) = self.front_index() else {
+        let Some(front) = self.front_index() else {
             return false;
         };
-        self.copy_out(at, item);
+        *item = self.slots[front];
         self.discard()
     }
 
@@ -142,7 +149,6 @@ impl<'a, T: Copy> Queue<'a, T> {
     pub fn discard(&mut self) -> bool
         ensures answer { result ≡ is_some (first (items self.old)) }
         ensures popped { Popped self.old self.new }
-        ensures lent { self.new.slots.ghost_name ≡ self.old.slots.ghost_name }
     {
         let len = self.len();
         if len == 0 {
@@ -164,19 +170,5 @@ impl<'a, T: Copy> Queue<'a, T> {
         } else {
             0
         }
-    }
-
-    fn at(&self, i: usize) -> T
-        requires { i < length (slots_of self.now) }
-        ensures { result ≡ slice_index_or (slots_of self.now) i result }
-    {
-        read(self.slots, i)
-    }
-
-    fn copy_out(&self, i: usize, item: &mut T)
-        requires { i < length (slots_of self.now) }
-        ensures { item.new ≡ slice_index_or (slots_of self.now) i item.new }
-    {
-        read_into(self.slots, i, item);
     }
 }

@@ -7,12 +7,7 @@ pub fn first_free<T>(table: &[Option<T>]) -> Option<usize>
     ensures value { result ≡ first_free 0 table.now }
     ensures within { IfSome result (λ k. k < length table.now) }
 {
-    for (k, place) in table.iter().enumerate() {
-        if place.is_none() {
-            return Some(k);
-        }
-    }
-    None
+    table.iter().position(|place| place.is_none())
 }
 
 /// What stands in a place of a table; past its end nothing does.

@@ -1,58 +1,39 @@
--- The orders in hand: finding one, and taking it out.
-use Rattle.std.proofs.Common.{◌≡◌, ℕ, suc, ◌-◌, ◌<◌, ◌≤◌, Bool, true, false, cond, ◌&&◌, ◌||◌, eqb, ltb, List, [], ◌∷◌, ◌++◌, length, take, drop, Some, Ok, sym, refl, ap, ◌∙◌, ⊎_elim, add-one, arith}
-use Rattle.std.specs.List.{between}
-use Rattle.std.proofs.lemmas.List.{length-append, length-take, length-drop, append_assoc, take_at, take-take, drop-drop}
-use Rattle.std.proofs.lemmas.Slice.{between_is}
-use Rattle.std.proofs.lemmas.Bool.{and_parts, and_from, lt-ltb, le-ltb}
+-- The orders in hand: taking one out, and what fits.
+use Rattle.std.proofs.Common.{◌≡◌, ℕ, suc, ◌+◌, ◌≤◌, Bool, true, false, cond, not, ◌&&◌, eqb, ltb, List, [], ◌∷◌, ◌++◌, length, Some, None, Ok, sym, refl, ap, ◌∙◌, ⊎_elim, arith}
+use Rattle.std.specs.List.{position_or_len, position, remove}
+use Rattle.std.proofs.lemmas.List.Folds.{list_all-append}
+use Rattle.std.proofs.lemmas.Bool.{and_parts, and_from, lt-ltb, le-ltb, cond-true, cond-false}
 use Rattle.std.proofs.lemmas.Bool.Decides.{nat_tests}
-use Rattle.device.specs.Meaning.{in_hand, others, first_of, same_way, on_turn, in_part}
+use Rattle.rules.specs.Refusal.{if_some}
+use Rattle.device.specs.Meaning.{others, first_of, same_way, on_turn, in_part}
 use Rattle.device.specs.declared.orders.Direction.{Direction}
 use Rattle.device.specs.declared.orders.Direction.TheVariants.{Inward, Outward}
 use Rattle.device.proofs.Served.{first_if, turn_is_next, served_is}
 use Rattle.device.specs.declared.orders.Order.{Order}
 use Rattle.wire.specs.Fit.{wire_fits, all_fit}
-use Rattle.wire.specs.Hand.{index_of, open_way}
+use Rattle.wire.specs.Hand.{open_way}
 use Rattle.wire.specs.Packet.{longest}
 
-found : (b : Bool) (i n : ℕ) (rest : Bool) → ltb i n ≡ rest → ltb (cond b 0 (suc i)) (suc n) ≡ (b || rest)
-found true i n rest e = lt-ltb 0 (suc n) (omega arith)
-found false i n true e = lt-ltb (suc i) (suc n) (grind (arith, nat_tests))
-found false i n false e = le-ltb (suc i) (suc n) (grind (arith, nat_tests))
+others-step : (b c : Bool) (i : ℕ) (o : Order) (os rest : List Order) → ltb i (length os) ≡ c → cond c (remove os i) os ≡ rest
+    → cond (ltb (cond (not b) (1 + i) 0) (suc (length os))) (remove (o ∷ os) (cond (not b) (1 + i) 0)) (o ∷ os) ≡ cond b os (o ∷ rest)
+others-step true c i o os rest e h = cond-true _ _ _ (lt-ltb 0 (suc (length os)) (omega arith))
+others-step false true i o os rest e h = cond-true _ _ _ (lt-ltb (1 + i) (suc (length os)) (grind (arith, nat_tests))) ∙ (let next : 1 + i ≡ suc i = omega arith in ap (remove (o ∷ os)) next) ∙ ap (λ qs. o ∷ qs) h
+others-step false false i o os rest e h = cond-false _ _ _ (le-ltb (1 + i) (suc (length os)) (grind (arith, nat_tests))) ∙ ap (λ qs. o ∷ qs) h
 
--- an order with the ticket is in hand if its index is one of theirs
-pub index-in_hand : (t : ℕ) (os : List Order) → ltb (index_of t os) (length os) ≡ in_hand t os
-index-in_hand t [] = refl
-index-in_hand t (o ∷ os) = found (eqb o.ticket t) (index_of t os) (length os) (in_hand t os) (index-in_hand t os)
+others-taken : (t : ℕ) (os : List Order) → let i = position_or_len (λ o. eqb o.ticket t) os in cond (ltb i (length os)) (remove os i) os ≡ others t os
+others-taken t [] = refl
+others-taken t (o ∷ os) = others-step (eqb o.ticket t) _ _ o os (others t os) refl (others-taken t os)
 
-without_one : (b : Bool) (i : ℕ) (o : Order) (os rest : List Order) → (i < length os → rest ≡ take i os ++ drop (suc i) os) → cond b 0 (suc i) < suc (length os) → cond b os (o ∷ rest) ≡ take (cond b 0 (suc i)) (o ∷ os) ++ drop (suc (cond b 0 (suc i))) (o ∷ os)
-without_one true i o os rest h lt = refl
-without_one false i o os rest h lt = ap (λ zs. o ∷ zs) (h (omega arith))
+there : {X Y : Type 0} (b : Bool) (i : X) (y : Y) (f : X → Y) → if_some (cond b (Some i) None) y f ≡ cond b (f i) y
+there true i y f = refl
+there false i y f = refl
 
--- those that stay are those before it and those after it
-pub others-found : (t : ℕ) (os : List Order) → index_of t os < length os → others t os ≡ take (index_of t os) os ++ drop (suc (index_of t os)) os
-others-found t [] lt = refl
-others-found t (o ∷ os) lt = without_one (eqb o.ticket t) (index_of t os) o os (others t os) (others-found t os) lt
-
-with_all : (b : Bool) (i : ℕ) (o : Order) (os rest : List Order) → (length os ≤ i → rest ≡ os) → suc (length os) ≤ cond b 0 (suc i) → cond b os (o ∷ rest) ≡ o ∷ os
-with_all true i o os rest h le = absurd (omega arith)
-with_all false i o os rest h le = ap (λ zs. o ∷ zs) (h (omega arith))
-
-pub others-none : (t : ℕ) (os : List Order) → length os ≤ index_of t os → others t os ≡ os
-others-none t [] le = refl
-others-none t (o ∷ os) le = with_all (eqb o.ticket t) (index_of t os) o os (others t os) (others-none t os) le
+-- the orders but for the one at the place that `position` finds
+pub others-position : (t : ℕ) (os : List Order) → if_some (position (λ o. eqb o.ticket t) os) os (remove os) ≡ others t os
+others-position t os = there _ _ os (remove os) ∙ others-taken t os
 
 pub fit_push : (os : List Order) (o : Order) → all_fit os ≡ true → wire_fits o.direction o.place o.length ≡ true → all_fit (os ++ o ∷ []) ≡ true
-fit_push [] o h e = and_from _ _ e refl
-fit_push (p ∷ os) o h e = let parts = and_parts _ _ h in and_from _ _ parts.0 (fit_push os o parts.1 e)
-
--- the front turned by one, and one less of it: the order at i is out
-pub turned_out : {T : Type 0} (xs : List T) (i n : ℕ) → i < n → n ≤ length xs → (rest : List T) → take (n - 1) (take i xs ++ ((drop 1 (between i n xs) ++ take 1 (between i n xs)) ++ rest)) ≡ take i (take n xs) ++ drop (suc i) (take n xs)
-turned_out xs i n lt le rest =
-    let front : length (take i xs ++ drop 1 (between i n xs)) ≡ n - 1 = simp (length-append, length-take, length-drop) (omega arith) in
-    ap (take (n - 1)) (ap (λ ys. take i xs ++ ys) (append_assoc (drop 1 (between i n xs)) (take 1 (between i n xs)) rest) ∙ sym (append_assoc (take i xs) (drop 1 (between i n xs)) (take 1 (between i n xs) ++ rest)))
-    ∙ take_at (take i xs ++ drop 1 (between i n xs)) (take 1 (between i n xs) ++ rest) (n - 1) front
-    ∙ ap (λ ys. ys ++ drop 1 (between i n xs)) (sym (take-take i n xs (omega arith)))
-    ∙ ap (λ ys. take i (take n xs) ++ ys) (ap (drop 1) (between_is xs i n) ∙ drop-drop 1 i (take n xs) ∙ ap (λ k. drop k (take n xs)) (add-one i))
+fit_push os o h e = list_all-append _ os (o ∷ []) ∙ and_from _ _ h (and_from _ _ e refl)
 
 fit_rest : (b : Bool) (o : Order) (os rest : List Order) → all_fit rest ≡ true → (wire_fits o.direction o.place o.length && all_fit os) ≡ true → all_fit (cond b os (o ∷ rest)) ≡ true
 fit_rest true o os rest h e = (and_parts _ _ e).1

@@ -1,2 +1,1 @@
 pub mod InHand
-pub mod Oldest

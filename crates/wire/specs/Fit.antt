@@ -1,5 +1,6 @@
 -- Which orders and which slots a wire takes.
-use Rattle.std.specs.Prelude.{ℕ, Bool, true, not, ◌&&◌, List, [], ◌∷◌, Ok, Result, ◌==◌, nat_le, nat_lt}
+use Rattle.std.specs.Prelude.{ℕ, Bool, not, ◌&&◌, List, [], ◌∷◌, Ok, Result, ◌==◌, nat_le, nat_lt}
+use Rattle.std.specs.List.{list_all}
 use Rattle.rules.specs.Refusal.{refuse_first}
 use Rattle.device.specs.declared.orders.Direction.{Direction}
 use Rattle.device.specs.declared.orders.Direction.TheVariants.{Inward, Outward}
@@ -23,8 +24,7 @@ wire_fits Outward place size = place == 0 && (nat_lt 0 size && nat_le size longe
 
 -- every order fits
 abbrev pub all_fit : List Order → Bool
-all_fit [] = true
-all_fit (o ∷ os) = wire_fits o.direction o.place o.length && all_fit os
+all_fit os = list_all (λ o. wire_fits o.direction o.place o.length) os
 
 -- as many slots as packets may wait
 abbrev pub checked : ℕ → Result Unit DeviceFault

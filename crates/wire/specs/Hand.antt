@@ -1,5 +1,5 @@
 -- The orders in hand.
-use Rattle.std.specs.Prelude.{ℕ, suc, Bool, cond, List, [], ◌∷◌, take, ◌==◌}
+use Rattle.std.specs.Prelude.{ℕ, Bool, List}
 use Rattle.device.specs.declared.orders.Direction.{Direction}
 use Rattle.device.specs.declared.orders.Direction.TheVariants.{Inward, Outward}
 use Rattle.device.specs.declared.orders.Order.{Order}
@@ -11,12 +11,7 @@ most_orders = 16
 
 -- the orders in hand, in order of acceptance
 abbrev pub orders_of : Hand → List Order
-orders_of h = take h.count h.table
-
--- the index of the first order under the ticket t, or how many orders there are
-abbrev pub index_of : ℕ → List Order → ℕ
-index_of t [] = 0
-index_of t (o ∷ os) = cond (o.ticket == t) 0 (suc (index_of t os))
+orders_of h = h.orders.items
 
 -- whether a way is open, where it is said which are
 abbrev pub open_way : Bool → Bool → Direction → Bool

@@ -15,3 +15,12 @@ holding_of p = p.holding.bytes
 -- how many packets may wait
 abbrev pub room_of : Packets → ℕ
 room_of p = length (slots_of p.line)
+
+-- the three together
+pub record Contents : Type 0 where
+  pub waiting : List (List ℕ)
+  pub holding : List ℕ
+  pub room : ℕ
+
+abbrev pub contents_of : Packets → Contents
+contents_of p = record { waiting = waiting_of p; holding = holding_of p; room = room_of p }

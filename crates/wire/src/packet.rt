@@ -1,14 +1,11 @@
 // One packet.
 ghost use Rattle.std.specs.Prelude.{◌≡◌, ◌≤◌, length};
-ghost use Rattle.device.specs.Row.{row_at};
 ghost use Rattle.wire.specs.Packet.{longest, packet_bytes, blank};
-
-use device::row::copy_row;
 
 /// The longest packet, in bytes.
 pub const LONGEST: usize = 1514;
 
-/// A packet: the first `length` of its bytes.
+/// A packet: the first `length` of its bytes. Plain and `Copy`, as it is kept in slots that the caller lends.
 #[derive(Clone, Copy)]
 pub struct Packet {
     pub length: u16,
@@ -26,20 +23,12 @@ impl Packet {
         }
     }
 
-    /// How many bytes the packet has.
-    pub(crate) fn len(&self) -> usize
-        ensures is { result ≡ length (packet_bytes self.now) }
-        ensures bound { result ≤ longest }
+    /// The packet's bytes.
+    pub(crate) fn bytes(&self) -> &[u8]
+        ensures is { result.now ≡ packet_bytes self.now }
+        ensures bound { length result.now ≤ longest }
     {
-        let bytes: &[u8] = &self.bytes;
-        (self.length as usize).min(bytes.len())
-    }
-
-    /// Copies the packet's bytes from `at` on into the part, and zeros past the packet's end.
-    pub(crate) fn copy_to(&self, at: usize, part: &mut [u8])
-        ensures { part.new ≡ row_at (packet_bytes self.now) at (length part.old) }
-    {
-        let len = self.len();
-        copy_row(&self.bytes[0..len], at, part);
+        let len = (self.length as usize).min(LONGEST);
+        &self.bytes[..len]
     }
 }

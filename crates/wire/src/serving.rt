@@ -3,13 +3,14 @@ ghost use Rattle.std.specs.Prelude.{◌≡◌, ◌<◌, true, length, nat_lt};
 ghost use Rattle.device.specs.Meaning.{next_order};
 ghost use Rattle.wire.specs.Fit.{wire_fits};
 ghost use Rattle.wire.specs.Hand.{open_way};
-ghost use Rattle.wire.specs.Waiting.{waiting_of, holding_of, room_of};
+ghost use Rattle.wire.specs.Waiting.{waiting_of, holding_of, room_of, contents_of};
 ghost use Rattle.wire.specs.State.{State, state, wire_rules, wire_laws, wire_status, waiting_after, holding_after};
 
 use crate::Wire;
 use crate::hand::CAPACITY;
 use crate::packet::LONGEST;
 use crate::packets::Packets;
+use device::row::copy_row;
 use device::turn::{on_turn, part_on_turn};
 use device::{Device, DeviceFault, Direction, Order};
 
@@ -20,13 +21,11 @@ pub const FRAME: u32 = 4096;
 fn finish(packets: &mut Packets<'_>, order: Order) -> i16
     requires { (open_way true (nat_lt (length (waiting_of packets.old)) (room_of packets.old)) order.direction ≡ true) × (wire_fits order.direction order.place order.length ≡ true) }
     ensures status { result ≡ wire_status order.direction (waiting_of packets.old) }
-    ensures waiting { waiting_of packets.new ≡ waiting_after order.direction order.length (waiting_of packets.old) (holding_of packets.old) }
-    ensures holding { holding_of packets.new ≡ holding_after order.direction (holding_of packets.old) }
-    ensures room { room_of packets.new ≡ room_of packets.old }
+    ensures packets { contents_of packets.new ≡ record (contents_of packets.old) { waiting = waiting_after order.direction order.length (waiting_of packets.old) (holding_of packets.old); holding = holding_after order.direction (holding_of packets.old) } }
 {
     match order.direction {
         Direction::Inward => {
-            let status = packets.oldest_len() as i16;
+            let status = packets.oldest().len() as i16;
             packets.drop_oldest();
             status
         }
@@ -77,22 +76,16 @@ impl<'a> Device for Wire<'a> {
         if self.hand.holds(order.ticket) {
             return Err(DeviceFault::TicketInHand);
         }
-        if !self.hand.push(order) {
-            return Err(DeviceFault::Full);
-        }
-        Ok(())
+        self.hand.push(order)
     }
 
     fn ready(&self) -> Option<u8> {
-        match self.next() {
-            Some(order) => Some(order.ticket),
-            None => None,
-        }
+        self.next().map(|order| order.ticket)
     }
 
     fn fill(&mut self, ticket: u8, at: u32, part: &mut [u8]) -> Result<(), DeviceFault> {
         part_on_turn(self.next(), ticket, Direction::Inward, at, part.len())?;
-        self.packets.copy_oldest(at as usize, part);
+        copy_row(self.packets.oldest(), at as usize, part);
         Ok(())
     }
 

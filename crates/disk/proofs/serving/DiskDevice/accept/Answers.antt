@@ -1,4 +1,4 @@
-use Rattle.std.proofs.Common.{◌≡◌, true, ◌||◌, eqb, [], ◌∷◌, ◌++◌, length, sym, ap, ◌∙◌, rules}
+use Rattle.std.proofs.Common.{◌≡◌, true, ◌||◌, eqb, [], ◌∷◌, ◌++◌, length, sym, ap, ◌∙◌}
 use Rattle.std.proofs.lemmas.Bool.{cond_both}
 use Rattle.queue.specs.Line.{items, is_full}
 use Rattle.disk.specs.Fit.{all_within}
@@ -11,13 +11,10 @@ invariant_of-self c =
     let o = c.args.order in
     let n = length d.sectors.bytes.now in
     let os = items d.orders in
-    let p = c.push.ensures.pushed in
+    let p = c.push.ensures in
     let fit = fits-within n o.place o.length (sym c.fits.ensures ∙ c.if-not-fits.false) in
     record {
       few = d.few;
       slots = ap (λ k. eqb n 0 || eqb k 4) p.size ∙ d.slots;
       held = ap (all_within n) p.holds ∙ cond_both (is_full d.orders) os (os ++ o ∷ []) (λ ys. all_within n ys ≡ true) (λ _. d.held) (λ _. within_push n os o d.held fit.0);
     }
-
-pub returns-then-holds : goal.returns-then-holds
-returns-then-holds c = search rules

@@ -1,4 +1,4 @@
-use Rattle.std.proofs.Common.{◌||◌, eqb, length, ap, ◌∙◌, arith, rules}
+use Rattle.std.proofs.Common.{◌||◌, eqb, length, ap, ◌∙◌, arith}
 use lib.Seq.{length-sets}
 use Rattle.queue.specs.Line.{items, slots_of}
 use Rattle.disk.specs.Fit.{all_within}
@@ -13,6 +13,3 @@ invariant_of-self c =
       slots = ap (λ k. eqb k 0 || eqb (length (slots_of d.orders)) 4) n ∙ d.slots;
       held = ap (λ k. all_within k (items d.orders)) n ∙ d.held;
     }
-
-pub returns : goal.returns
-returns c = search rules

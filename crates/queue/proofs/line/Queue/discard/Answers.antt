@@ -19,6 +19,6 @@ returns g c =
         holds = sym (ap rest all);
         slots = refl;
         none = λ e. absurd (let z : length (items q) ≡ 0 = ap length e in omega (arith, n.ensures.is));
+        lent = refl;
       };
-      lent = refl;
     }

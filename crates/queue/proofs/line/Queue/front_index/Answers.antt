@@ -1,11 +1,7 @@
 use Rattle.std.proofs.Common.{sym, ap, ◌∙◌, arith}
-use Rattle.std.proofs.lemmas.List.{nil_from_length}
-use Rattle.queue.specs.Line.{items, first}
+use Rattle.queue.specs.Line.{first}
 use Rattle.queue.proofs.Turns.{items-first, take_own}
 use Rattle.queue.proofs.line.Queue.front_index.Goals as goal
-
-pub returns-then-len-eq0 : goal.returns-then-len-eq0
-returns-then-len-eq0 g c = nil_from_length (items c.args.self.now) (sym c.len.ensures.is ∙ c.if-len-eq0.true)
 
 pub returns : goal.returns
 returns g c =

@@ -1,14 +1,8 @@
-use Rattle.std.proofs.Common.{◌≡◌, ◌-◌, Bool, take, sym, ap, ◌∙◌, arith}
-use Rattle.device.specs.Meaning.{first_of}
-use Rattle.device.specs.declared.orders.Order.{Order}
+use Rattle.std.proofs.Common.{◌∙◌, rules, tests}
+use Rattle.std.proofs.lemmas.Iterator.{YieldsList-from_slice}
+use Rattle.std.proofs.lemmas.Iterator.Search.{find_from_yields_List}
 use Rattle.wire.specs.Hand.{open_way}
-use Rattle.queue.proofs.Turns.{take_counted}
 use Rattle.wire.proofs.hand.Hand.next.Goals as goal
 
 pub returns : goal.returns
-returns c =
-    let h = c.args.self.now in
-    let n = c.len-len.result in
-    let open-to : Order → Bool = λ o. open_way c.args.inward c.args.outward o.direction in
-    let whole : n - 0 ≡ n = omega arith in
-    c.first_open.ensures ∙ ap (λ k. first_of open-to (take k h.table)) whole ∙ sym (ap (first_of open-to) (take_counted h.count n h.table c.len-len.ensures.is))
+returns c = c.copied.ensures ∙ find_from_yields_List (λ o. open_way c.args.inward c.args.outward o.direction) _ _ c.find.result c.find.ensures.ran (YieldsList-from_slice _ (cc)) (λ x b q k. search (rules, tests))

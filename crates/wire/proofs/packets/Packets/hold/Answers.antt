@@ -1,4 +1,4 @@
-use Rattle.std.proofs.Common.{◌+◌, ◌-◌, ◌≤◌, length, refl, ap, ◌∙◌, arith}
+use Rattle.std.proofs.Common.{◌+◌, ◌-◌, ◌≤◌, length, ap, ◌∙◌, arith}
 use borrow.Rule.Slice.PartMut.{put_mid}
 use Rattle.device.proofs.Rows.{row_written}
 use Rattle.wire.proofs.packets.Packets.hold.Goals as goal
@@ -9,8 +9,5 @@ returns c =
     let ys = c.args.part.now in
     let i = c.args.at in
     let fits : i + length ys ≤ length xs = omega arith in
-    record {
-      waiting = refl;
-      holding = ap (put_mid i ((i + length ys) - i) xs) c.copy_from_slice.ensures.after ∙ row_written xs ys i fits;
-      room = refl;
-    }
+    let written = ap (put_mid i ((i + length ys) - i) xs) c.copy_from_slice.ensures.after ∙ row_written xs ys i fits in
+    cc written

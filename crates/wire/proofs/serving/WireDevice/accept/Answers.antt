@@ -1,4 +1,4 @@
-use Rattle.std.proofs.Common.{◌≡◌, true, eqb, [], ◌∷◌, ◌++◌, length, sym, ap, ◌∙◌, rules}
+use Rattle.std.proofs.Common.{◌≡◌, true, eqb, [], ◌∷◌, ◌++◌, length, sym, ap, ◌∙◌}
 use Rattle.std.proofs.lemmas.Bool.{cond_both}
 use Rattle.wire.specs.Fit.{all_fit}
 use Rattle.wire.specs.Hand.{orders_of}
@@ -12,6 +12,3 @@ invariant_of-self c =
     let os = orders_of w.hand in
     let fits = sym c.fits.ensures ∙ c.if-not-fits.false in
     record { held = ap all_fit c.push.ensures.holds ∙ cond_both (eqb (length os) 16) os (os ++ o ∷ []) (λ ys. all_fit ys ≡ true) (λ _. w.held) (λ _. fit_push os o w.held fits) }
-
-pub returns-then-holds : goal.returns-then-holds
-returns-then-holds c = search rules

@@ -1,4 +1,4 @@
-use Rattle.std.proofs.Common.{ltb, length, sym, ap, ◌∙◌, rules}
+use Rattle.std.proofs.Common.{ltb, length, sym, ap, ◌∙◌}
 use Rattle.device.specs.Meaning.{on_turn, first_of}
 use Rattle.device.proofs.Served.{turn_is_next, first_passes}
 use Rattle.wire.specs.Fit.{all_fit}
@@ -22,6 +22,3 @@ pub invariant_of-self : goal.invariant_of-self
 invariant_of-self c =
     let w = c.args.self.now in
     record { held = ap all_fit c.remove.ensures ∙ fit_others _ (orders_of w.hand) w.held }
-
-pub returns : goal.returns
-returns c = search rules

@@ -1,4 +1,4 @@
-use Rattle.std.proofs.Common.{◌+◌, ◌≤◌, length, sym, ap, ◌∙◌, arith, rules}
+use Rattle.std.proofs.Common.{◌+◌, ◌≤◌, length, sym, ap, ◌∙◌, arith}
 use Rattle.device.specs.Meaning.{on_turn, in_part}
 use Rattle.device.specs.declared.orders.Direction.TheVariants.{Outward}
 use Rattle.wire.specs.Hand.{orders_of}
@@ -15,6 +15,3 @@ hold-requires c =
     let served = ap (λ n. in_part (on_turn n t) Outward end) (sym c.next.ensures) ∙ sym c.part_on_turn.ensures ∙ c.in_ok-part_on_turn.was in
     let short : end ≤ longest = drained_short (wire_ready (state w)) (orders_of w.hand) t end _ w.held served in
     omega arith
-
-pub returns : goal.returns
-returns c = search rules
