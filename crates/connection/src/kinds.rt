@@ -5,7 +5,7 @@ ghost use Rattle.connection.specs.Tables.{kind_numbered, bay_of};
 use abi::Kind;
 
 /// The two places for devices: the block device and the network device.
-#[derive(Clone, Copy)]
+#[derive(Clone, Copy, PartialEq, Eq)]
 pub enum Bay {
     BlockBay,
     NetBay,
