@@ -37,8 +37,7 @@ pub fn place_of(request: &Request) -> u64
 {
     match request {
         Request::OfBlock(q) => q.sector,
-        Request::OfSend(_) => 0,
-        Request::OfReceive(_) => 0,
+        Request::OfSend(_) | Request::OfReceive(_) => 0,
     }
 }
 
@@ -59,8 +58,7 @@ pub fn operation_of(request: &Request) -> u8
 {
     match request {
         Request::OfBlock(q) => q.operation,
-        Request::OfSend(_) => 0,
-        Request::OfReceive(_) => 0,
+        Request::OfSend(_) | Request::OfReceive(_) => 0,
     }
 }
 

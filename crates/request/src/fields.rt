@@ -1,6 +1,6 @@
 // The checks of a request's own fields, first miss first.
-ghost use Rattle.std.specs.Prelude.{◌≡◌, ◌≤◌, ◌||◌, length, nat_lt};
-ghost use Rattle.request.specs.Check.{segment_verdict, field_verdict};
+ghost use Rattle.std.specs.Prelude.{◌≡◌, ◌<◌, ◌≤◌, ◌||◌, length, nat_lt, position, IfSome};
+ghost use Rattle.request.specs.Check.{miss, segment_verdict, field_verdict};
 
 use blkif::{SEGMENTS, Segment};
 use ring::RingFault;
@@ -13,29 +13,38 @@ pub struct Miss {
     pub place: u8,
 }
 
-// Whether a segment ends before it begins, or past its frame's eight sectors.
-fn is_bad(segment: &Segment) -> bool
-    ensures { result ≡ (nat_lt segment.now.last segment.now.first || nat_lt 7 segment.now.last) }
+/// A fault that no segment has part in.
+impl From<RingFault> for Miss {
+    ghost from_gives = { λ fault result. result ≡ miss fault 0 };
+
+    fn from(fault: RingFault) -> Miss {
+        Miss { fault, place: 0 }
+    }
+}
+
+// The first segment that ends before it begins, or past its frame's eight sectors.
+fn first_bad(segments: &[Segment]) -> Option<usize>
+    ensures value { result ≡ position (λ s. nat_lt s.last s.first || nat_lt 7 s.last) segments.now }
+    ensures within { IfSome result (λ k. k < length segments.now) }
 {
-    segment.last < segment.first || segment.last > 7
+    segments
+        .iter()
+        .position(|segment| segment.last < segment.first || segment.last > 7)
 }
 
 // The segments in turn.
+#[tactic(auto, using(crate::proofs::Segments::met_first))]
 fn check_segments(segments: &[Segment]) -> Result<(), Miss>
     requires { length segments.now ≤ 11 }
     ensures { result ≡ segment_verdict 0 segments.now }
 {
-    let mut place = 0u8;
-    for segment in segments {
-        if is_bad(segment) {
-            return Err(Miss {
-                fault: RingFault::BadSegment,
-                place,
-            });
-        }
-        place += 1;
+    match first_bad(segments) {
+        Some(place) => Err(Miss {
+            fault: RingFault::BadSegment,
+            place: place as u8,
+        }),
+        None => Ok(()),
     }
-    Ok(())
 }
 
 /// Whether the request's own fields are in order.
@@ -45,25 +54,16 @@ pub fn check_fields(request: &Request) -> Result<(), Miss>
     match request {
         Request::OfBlock(q) => {
             if q.operation > 1 {
-                return Err(Miss {
-                    fault: RingFault::BadOperation,
-                    place: 0,
-                });
+                return Err(RingFault::BadOperation.into());
             }
             if q.count == 0 || q.count as usize > SEGMENTS {
-                return Err(Miss {
-                    fault: RingFault::BadCount,
-                    place: 0,
-                });
+                return Err(RingFault::BadCount.into());
             }
-            check_segments(&q.segments[0..q.count as usize])
+            check_segments(&q.segments[..q.count as usize])
         }
         Request::OfSend(q) => {
             if q.flags != 0 || u32::from(q.offset) + u32::from(q.size) > 4096 {
-                return Err(Miss {
-                    fault: RingFault::BadSpan,
-                    place: 0,
-                });
+                return Err(RingFault::BadSpan.into());
             }
             Ok(())
         }

@@ -30,10 +30,7 @@ pub fn check<D: Device>(request: &Request, device: &D) -> Result<Checked, Miss>
     let direction = direction_of(request);
     let place = place_of(request);
     if !device.fits(direction, place, parts.length) {
-        return Err(Miss {
-            fault: RingFault::Unfit,
-            place: 0,
-        });
+        return Err(RingFault::Unfit.into());
     }
     Ok(Checked {
         direction,

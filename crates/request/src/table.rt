@@ -1,12 +1,14 @@
 // The parts of frames that a request names, in order.
-ghost use Rattle.std.specs.Prelude.{◌≡◌, [], ◌∷◌, map, take, sum_by};
+ghost use Rattle.std.specs.Prelude.{◌≡◌, ◌<◌, ◌^◌, [], ◌∷◌, map, take, sum_by};
 ghost use Rattle.request.specs.Content.{segment_span, spans_of, length_of, listed};
 
 use crate::content::{Span, segment_span};
-use blkif::{BlockRequest, SEGMENTS, Segment};
+use blkif::{BlockRequest, SEGMENTS};
 use ringpage::Request;
+use rules::front;
 
-/// The first `count` places of a table, and how many bytes they have together.
+/// The first `count` places of a table, and how many bytes they have together. A plain `Copy` record, as `Checked` is
+/// that holds it: a vector of a fixed capacity is none.
 #[derive(Clone, Copy)]
 pub struct Parts {
     pub table: [Span; SEGMENTS],
@@ -14,41 +16,35 @@ pub struct Parts {
     pub length: u32,
 }
 
-const NONE: Span = Span {
-    reference: 0,
-    start: 0,
-    length: 0,
-};
-
 fn one_part(span: Span) -> Parts
     ensures spans { listed result ≡ span ∷ [] }
     ensures length { result.length ≡ span.length }
 {
-    let mut table = [NONE; SEGMENTS];
-    table[0] = span;
     Parts {
-        table,
+        table: [span; SEGMENTS],
         count: 1,
         length: span.length,
     }
+}
+
+// The bytes of all parts together.
+fn total(spans: &[Span]) -> u32
+    requires { sum_by (λ s. s.length) spans.now < 2 ^ 32 }
+    ensures { result ≡ sum_by (λ s. s.length) spans.now }
+{
+    spans.iter().map(|span| span.length).sum()
 }
 
 fn block_parts(request: &BlockRequest) -> Parts
     ensures spans { listed result ≡ map segment_span (take request.now.count request.now.segments) }
     ensures length { result.length ≡ sum_by (λ s. s.length) (map segment_span (take request.now.count request.now.segments)) }
 {
-    let mut table = [NONE; SEGMENTS];
-    let mut length = 0u32;
-    let segments: &[Segment] = &request.segments;
-    let count = request.count.min(11);
-    for i in 0..count as usize {
-        let span = segment_span(segments[i]);
-        table[i] = span;
-        length += span.length;
-    }
+    let segments = front(&request.segments, request.count as usize);
+    let table = request.segments.map(segment_span);
+    let length = total(front(&table, segments.len()));
     Parts {
         table,
-        count,
+        count: segments.len() as u8,
         length,
     }
 }

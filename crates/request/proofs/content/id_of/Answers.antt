@@ -1,5 +1,0 @@
-use Rattle.std.proofs.Common.{rules}
-use Rattle.request.proofs.content.id_of.Goals as goal
-
-pub returns-in-OfSend : goal.returns-in-OfSend
-returns-in-OfSend c = search rules
