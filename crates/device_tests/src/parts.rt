@@ -1,14 +1,6 @@
 // Parts of a memory, handed to a disk.
 use device::{Device, Direction, Order, Part, drain_parts, fill_parts};
 use disk::Disk;
-use std::test::Fail;
-
-const NONE: Order = Order {
-    ticket: 0,
-    direction: Direction::Inward,
-    place: 0,
-    length: 0,
-};
 
 // A disk of two sectors whose bytes are 1 up to byte 511 and 2 from byte 512 on.
 fn fill_sectors(memory: &mut [u8]) {
@@ -23,7 +15,7 @@ fn fill_sectors(memory: &mut [u8]) {
 fn filled_in_turn(rt: HostRuntime) {
     let mut sectors = [0u8; 1024];
     fill_sectors(&mut sectors);
-    let mut slots = [NONE; 4];
+    let mut slots = [Order::default(); 4];
     let mut disk = Disk::new(&mut sectors, &mut slots);
     assert!(rt;
         disk.accept(Order {
@@ -64,10 +56,10 @@ fn filled_in_turn(rt: HostRuntime) {
 
 // The second part passes the order's end, 512 bytes: it is refused with -6, and the first stays filled.
 #[test]
-fn fault_in_the_middle(rt: HostRuntime) -> Result<(), Fail> {
+fn fault_in_the_middle(rt: HostRuntime) {
     let mut sectors = [0u8; 1024];
     fill_sectors(&mut sectors);
-    let mut slots = [NONE; 4];
+    let mut slots = [Order::default(); 4];
     let mut disk = Disk::new(&mut sectors, &mut slots);
     assert!(rt;
         disk.accept(Order {
@@ -93,22 +85,19 @@ fn fault_in_the_middle(rt: HostRuntime) -> Result<(), Fail> {
             length: 1,
         },
     ];
-    match fill_parts(&mut disk, 3, 0, &mut memory, &parts) {
-        Ok(()) => return Err(Fail::new("the second part was filled")),
-        Err(fault) => assert_eq!(rt; fault.number(), -6),
-    }
+    let filled = fill_parts(&mut disk, 3, 0, &mut memory, &parts);
+    assert_eq!(rt; filled.map_err(|fault| fault.number()), Err(-6));
     assert_eq!(rt; memory.get(0).copied(), Some(2));
     assert_eq!(rt; memory.get(1).copied(), Some(2));
     assert_eq!(rt; memory.get(2).copied(), Some(9));
     assert_eq!(rt; memory.get(4).copied(), Some(9));
-    Ok(())
 }
 
 // A part that does not lie inside the memory is refused with -6 before the disk is asked; what was drained stays.
 #[test]
-fn drained_in_turn(rt: HostRuntime) -> Result<(), Fail> {
+fn drained_in_turn(rt: HostRuntime) {
     let mut sectors = [0u8; 512];
-    let mut slots = [NONE; 4];
+    let mut slots = [Order::default(); 4];
     let mut disk = Disk::new(&mut sectors, &mut slots);
     assert!(rt;
         disk.accept(Order {
@@ -130,10 +119,8 @@ fn drained_in_turn(rt: HostRuntime) -> Result<(), Fail> {
             length: 2,
         },
     ];
-    match drain_parts(&mut disk, 0, 0, &memory, &parts) {
-        Ok(()) => return Err(Fail::new("a part past the memory was drained")),
-        Err(fault) => assert_eq!(rt; fault.number(), -6),
-    }
+    let drained = drain_parts(&mut disk, 0, 0, &memory, &parts);
+    assert_eq!(rt; drained.map_err(|fault| fault.number()), Err(-6));
     assert_eq!(rt; disk.done(0).is_ok(), true);
     assert!(rt;
         disk.accept(Order {
@@ -147,5 +134,4 @@ fn drained_in_turn(rt: HostRuntime) -> Result<(), Fail> {
     let mut back = [9u8; 4];
     assert!(rt; disk.fill(0, 0, &mut back).is_ok());
     assert_eq!(rt; back, [12, 13, 0, 0]);
-    Ok(())
 }

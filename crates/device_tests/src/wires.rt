@@ -1,6 +1,5 @@
 // The wire.
 use device::{Device, Direction, Order};
-use std::test::Fail;
 use wire::{Packet, Wire};
 
 fn order(ticket: u8, direction: Direction) -> Order {
@@ -20,27 +19,20 @@ fn order(ticket: u8, direction: Direction) -> Order {
 // second; once it is done a packet waits, and the inward order is ready. The packet 1 2 3 4 is shorter than the 4,096
 // bytes of its order: zeros follow it, and the status is its length.
 #[test]
-fn both_directions_in_turn(rt: HostRuntime) -> Result<(), Fail> {
+fn both_directions_in_turn(rt: HostRuntime) {
     let mut slots = [Packet::new(); 8];
     let mut wire = Wire::new(&mut slots);
     assert!(rt; wire.accept(order(1, Direction::Inward)).is_ok());
     assert!(rt; wire.accept(order(2, Direction::Outward)).is_ok());
     assert_eq!(rt; wire.ready(), Some(2));
     assert!(rt; wire.drain(2, 0, &[1, 2, 3, 4]).is_ok());
-    match wire.done(2) {
-        Ok(status) => assert_eq!(rt; status, 0),
-        Err(_) => return Err(Fail::new("done was refused")),
-    }
+    assert_eq!(rt; wire.done(2), Ok(0));
     assert_eq!(rt; wire.ready(), Some(1));
     let mut part = [9u8; 6];
     assert!(rt; wire.fill(1, 0, &mut part).is_ok());
     assert_eq!(rt; part, [1, 2, 3, 4, 0, 0]);
-    match wire.done(1) {
-        Ok(status) => assert_eq!(rt; status, 4),
-        Err(_) => return Err(Fail::new("done was refused")),
-    }
+    assert_eq!(rt; wire.done(1), Ok(4));
     assert_eq!(rt; wire.ready(), None);
-    Ok(())
 }
 
 // Eight packets are all that wait: the ninth outward order is in hand and not ready until one is taken.

@@ -8,8 +8,8 @@ use crate::QueueFault;
 use crate::slots::place;
 
 /// A first-in-first-out line over lent slots.
-// The slots are the caller's, and the items start where the last one left: so a start and a count, and no
-// container of the library's. No ghost field: every value of `head` and `len` means something, so a line may be part of any struct.
+// A start and a count, since the slots are the caller's. No ghost field: every value of `head` and `len` means
+// something, so a line may be part of any struct.
 #[derive(Drop)]
 pub struct Queue<'a, T> {
     slots: &'a mut [T],

@@ -1,6 +1,6 @@
 -- The orders in hand: taking one out, and what fits.
 use Rattle.std.proofs.Common.{◌≡◌, ℕ, suc, ◌+◌, ◌≤◌, Bool, true, false, cond, not, ◌&&◌, eqb, ltb, List, [], ◌∷◌, ◌++◌, length, Some, None, Ok, sym, refl, ap, ◌∙◌, ⊎_elim, arith}
-use Rattle.std.specs.List.{position_or_len, position, remove}
+use Rattle.std.specs.List.{position, remove}
 use Rattle.std.proofs.lemmas.List.Folds.{list_all-append}
 use Rattle.std.proofs.lemmas.Bool.{and_parts, and_from, lt-ltb, le-ltb, cond-true, cond-false}
 use Rattle.std.proofs.lemmas.Bool.Decides.{nat_tests}
@@ -11,7 +11,7 @@ use Rattle.device.specs.declared.orders.Direction.TheVariants.{Inward, Outward}
 use Rattle.device.proofs.Served.{first_if, turn_is_next, served_is}
 use Rattle.device.specs.declared.orders.Order.{Order}
 use Rattle.wire.specs.Fit.{wire_fits, all_fit}
-use Rattle.wire.specs.Hand.{open_way}
+use Rattle.wire.specs.Hand.{index_of, open_way}
 use Rattle.wire.specs.Packet.{longest}
 
 others-step : (b c : Bool) (i : ℕ) (o : Order) (os rest : List Order) → ltb i (length os) ≡ c → cond c (remove os i) os ≡ rest
@@ -20,7 +20,7 @@ others-step true c i o os rest e h = cond-true _ _ _ (lt-ltb 0 (suc (length os))
 others-step false true i o os rest e h = cond-true _ _ _ (lt-ltb (1 + i) (suc (length os)) (grind (arith, nat_tests))) ∙ (let next : 1 + i ≡ suc i = omega arith in ap (remove (o ∷ os)) next) ∙ ap (λ qs. o ∷ qs) h
 others-step false false i o os rest e h = cond-false _ _ _ (le-ltb (1 + i) (suc (length os)) (grind (arith, nat_tests))) ∙ ap (λ qs. o ∷ qs) h
 
-others-taken : (t : ℕ) (os : List Order) → let i = position_or_len (λ o. eqb o.ticket t) os in cond (ltb i (length os)) (remove os i) os ≡ others t os
+others-taken : (t : ℕ) (os : List Order) → let i = index_of t os in cond (ltb i (length os)) (remove os i) os ≡ others t os
 others-taken t [] = refl
 others-taken t (o ∷ os) = others-step (eqb o.ticket t) _ _ o os (others t os) refl (others-taken t os)
 
