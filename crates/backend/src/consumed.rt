@@ -1,5 +1,5 @@
 // A request that was taken off its ring.
-ghost use Rattle.std.specs.Prelude.{◌≡◌, Some as Just};
+ghost use Rattle.std.specs.Prelude.{◌≡◌};
 ghost use Rattle.request.specs.Content.{id_of, operation_of};
 ghost use Rattle.connection.specs.Tables.{with_job};
 ghost use Rattle.backend.specs.Look.{consumed_on};
@@ -66,7 +66,7 @@ impl Consumed {
 
     /// Spends the request by a job, which is in hand under this ticket and will be answered when it is done.
     pub fn hand_over(self, rings: &mut Rings, ticket: u8, job: &Job)
-        ensures { rings.new ≡ with_job ticket (Just job.now) rings.old }
+        ensures { rings.new ≡ with_job ticket (Some job.now) rings.old }
     {
         let Consumed {
             connection: _,

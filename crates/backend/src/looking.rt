@@ -1,5 +1,6 @@
 // The ring as a back end finds it.
-ghost use Rattle.std.specs.Prelude.{◌≡◌};
+ghost use Rattle.std.specs.Prelude.{◌≡◌, if◌then◌else◌, is_none};
+ghost use Rattle.rules.specs.Refusal.{granting};
 ghost use Rattle.frame.specs.Memory.{OthersKept};
 ghost use Rattle.backend.specs.Look.{look, next_request, event_asked};
 
@@ -8,10 +9,14 @@ use connection::Connection;
 use ring::{RingFault, Word, ahead, put_word, request_or_zeros, word_or_zero};
 use ringpage::Request;
 
-/// Whether a request is next. The guest's index is looked at first, and a back end that is busy refuses only where
-/// there is something to do.
-pub fn look(connection: &Connection, memory: &[u8], busy: bool) -> Result<bool, RingFault>
-    ensures { result ≡ look busy connection.now memory.now }
+/// The ticket for the request that is next, or none where no request is. The guest's index is looked at first, and a
+/// back end that is busy, which has no ticket, refuses only where there is something to do.
+pub fn look(
+    connection: &Connection,
+    memory: &[u8],
+    ticket: Option<u8>,
+) -> Result<Option<u8>, RingFault>
+    ensures { result ≡ granting (λ next. if next then ticket else None) (look (is_none ticket) connection.now memory.now) }
 {
     let produced = word_or_zero(memory, connection.page, Word::ReqProd);
     let count = ahead(
@@ -21,12 +26,9 @@ pub fn look(connection: &Connection, memory: &[u8], busy: bool) -> Result<bool, 
         produced,
     )?;
     if count == 0 {
-        return Ok(false);
+        return Ok(None);
     }
-    if busy {
-        return Err(RingFault::Busy);
-    }
-    Ok(true)
+    Ok(Some(ticket.ok_or(RingFault::Busy)?))
 }
 
 /// The request that is next, as its slot has it now.

@@ -15,6 +15,8 @@ use request::{Checked, Miss, Parts, Span};
 use ring::RingFault;
 use rules::front;
 
+const BACK_END: Domain = Domain { id: 0 };
+
 const NO_PART: Part = Part {
     start: 0,
     length: 0,
@@ -80,10 +82,9 @@ fn pin_segment(
     requires { job.old.count < 11 }
     ensures { SegmentPinned frames.now guest span.now grants.old job.old result grants.new job.new }
 {
-    let back_end = Domain { id: 0 };
     let mode = mode_for(job.direction);
-    let granted = grants.may_map(frames, back_end, u32::from(guest), span.reference, mode)?;
-    grants.pin(back_end, granted);
+    let granted = grants.may_map(frames, BACK_END, u32::from(guest), span.reference, mode)?;
+    grants.pin(BACK_END, granted);
     let place = job.count as usize;
     job.handles[place] = granted.handle;
     job.parts[place] = part_in(granted.mapping.frame, span);
@@ -92,12 +93,13 @@ fn pin_segment(
 }
 
 /// Unmaps the segments of a job, the last first.
+#[tactic(auto, using(crate::proofs::InTurn::released_push))]
 pub fn unpin_segments(grants: &mut Grants, job: &Job)
     ensures { grants.new ≡ released_all (handles_of job.now) grants.old }
 {
     let handles = front(&job.handles, job.count as usize);
-    for i in (0..handles.len()).rev() {
-        grants.unpin(Domain { id: 0 }, u32::from(handles[i]));
+    for handle in handles.iter().rev() {
+        grants.unpin(BACK_END, u32::from(*handle));
     }
 }
 

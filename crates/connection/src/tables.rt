@@ -22,7 +22,8 @@ pub struct Connection {
 }
 
 /// A request that a device has in hand, until it is answered. The first `count` places of the two tables are
-/// domain 0's handles of its segments, and the parts of memory that these are.
+/// domain 0's handles of its segments, and the parts of memory that these are: two tables, since a device takes the
+/// parts as one slice, and plain ones, since a job is copied into its place.
 #[derive(Clone, Copy)]
 pub struct Job {
     pub connection: u8,
