@@ -1,7 +1,8 @@
 // The grant entry, Xen's struct grant_entry_v1.
-ghost use Rattle.std.specs.Prelude.{◌≡◌};
-ghost use Rattle.layout.specs.Message.{Decoded, Encoded};
+ghost use Rattle.std.specs.Prelude.{◌≡◌, refl};
 ghost use Rattle.abi.specs.Entry.{grant_entry, permits, read_only, reading, writing};
+
+use layout::Coded;
 
 // The type, in the two low bits of flags, and the one that permits access.
 const GTF_TYPE_MASK: u16 = 3;
@@ -25,11 +26,12 @@ pub struct GrantEntry {
     pub frame: u32,
 }
 
-impl GrantEntry {
-    /// The entry that eight bytes hold.
-    pub fn decode(bytes: &[u8; 8]) -> GrantEntry
-        ensures { Decoded grant_entry bytes.now result }
-    {
+impl Coded<8> for GrantEntry {
+    ghost format = { grant_entry };
+
+    ghost sized = { refl };
+
+    fn decode(bytes: &[u8; 8]) -> GrantEntry {
         let [a0, a1, d0, d1, f0, f1, f2, f3] = *bytes;
         GrantEntry {
             flags: u16::from_le_bytes([a0, a1]),
@@ -38,16 +40,20 @@ impl GrantEntry {
         }
     }
 
-    /// The eight bytes of the entry.
-    pub fn encode(self) -> [u8; 8]
-        ensures { Encoded grant_entry self result }
-    {
-        let [a0, a1] = self.flags.to_le_bytes();
-        let [d0, d1] = self.domid.to_le_bytes();
-        let [f0, f1, f2, f3] = self.frame.to_le_bytes();
+    fn encode(&self) -> [u8; 8] {
+        let GrantEntry {
+            flags,
+            domid,
+            frame,
+        } = *self;
+        let [a0, a1] = flags.to_le_bytes();
+        let [d0, d1] = domid.to_le_bytes();
+        let [f0, f1, f2, f3] = frame.to_le_bytes();
         [a0, a1, d0, d1, f0, f1, f2, f3]
     }
+}
 
+impl GrantEntry {
     /// Whether the entry's type permits access.
     pub fn permits_access(self) -> bool
         ensures { result ≡ permits self.flags }

@@ -4,6 +4,7 @@ ghost use Rattle.abi.specs.Examples.{Worked};
 use crate::entry::GrantEntry;
 use crate::index::distance;
 use crate::page::Kind;
+use layout::Coded;
 
 /// What the code answers to the worked examples.
 #[derive(Clone, Copy)]

@@ -1,9 +1,8 @@
 // A ring page: a header of four indices, and slots behind it. Xen's DEFINE_RING_TYPES.
-ghost use Rattle.std.specs.Prelude.{◌≡◌};
-ghost use Rattle.layout.specs.Message.{Decoded, Encoded};
+ghost use Rattle.std.specs.Prelude.{◌≡◌, refl};
 ghost use Rattle.abi.specs.Page.{ring_header, slots, slot_size, slot_of, slot_start, SlotOfCount, Inside};
 
-use layout::le32;
+use layout::Coded;
 
 /// The bytes of a page.
 pub const PAGE_SIZE: usize = 4096;
@@ -20,11 +19,12 @@ pub struct RingHeader {
     pub rsp_event: u32,
 }
 
-impl RingHeader {
-    /// The header that sixteen bytes hold.
-    pub fn decode(bytes: &[u8; 16]) -> RingHeader
-        ensures { Decoded ring_header bytes.now result }
-    {
+impl Coded<16> for RingHeader {
+    ghost format = { ring_header };
+
+    ghost sized = { refl };
+
+    fn decode(bytes: &[u8; 16]) -> RingHeader {
         let [
             q0,
             q1,
@@ -51,14 +51,17 @@ impl RingHeader {
         }
     }
 
-    /// The sixteen bytes of the header.
-    pub fn encode(self) -> [u8; 16]
-        ensures { Encoded ring_header self result }
-    {
-        let [q0, q1, q2, q3] = le32(self.req_prod);
-        let [e0, e1, e2, e3] = le32(self.req_event);
-        let [s0, s1, s2, s3] = le32(self.rsp_prod);
-        let [v0, v1, v2, v3] = le32(self.rsp_event);
+    fn encode(&self) -> [u8; 16] {
+        let RingHeader {
+            req_prod,
+            req_event,
+            rsp_prod,
+            rsp_event,
+        } = *self;
+        let [q0, q1, q2, q3] = req_prod.to_le_bytes();
+        let [e0, e1, e2, e3] = req_event.to_le_bytes();
+        let [s0, s1, s2, s3] = rsp_prod.to_le_bytes();
+        let [v0, v1, v2, v3] = rsp_event.to_le_bytes();
         [
             q0, q1, q2, q3, e0, e1, e2, e3, s0, s1, s2, s3, v0, v1, v2, v3,
         ]

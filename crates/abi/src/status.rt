@@ -3,17 +3,17 @@ ghost use Rattle.std.specs.Prelude.{◌≡◌};
 ghost use Rattle.abi.specs.Status.{grant_number, errno_number, house_number};
 
 /// Xen's grant_table.h, GNTST_general_error to GNTST_bad_page.
-#[derive(Clone, Copy)]
+#[derive(Clone, Copy, PartialEq, Eq, Debug)]
 pub enum GrantStatus {
-    GeneralError,
-    BadDomain,
-    BadGntref,
-    BadHandle,
-    BadVirtAddr,
-    BadDevAddr,
-    NoDeviceSpace,
-    PermissionDenied,
-    BadPage,
+    GeneralError = -1,
+    BadDomain = -2,
+    BadGntref = -3,
+    BadHandle = -4,
+    BadVirtAddr = -5,
+    BadDevAddr = -6,
+    NoDeviceSpace = -7,
+    PermissionDenied = -8,
+    BadPage = -9,
 }
 
 impl GrantStatus {
@@ -21,25 +21,15 @@ impl GrantStatus {
     pub fn number(self) -> i32
         ensures { result ≡ grant_number self }
     {
-        match self {
-            GrantStatus::GeneralError => -1,
-            GrantStatus::BadDomain => -2,
-            GrantStatus::BadGntref => -3,
-            GrantStatus::BadHandle => -4,
-            GrantStatus::BadVirtAddr => -5,
-            GrantStatus::BadDevAddr => -6,
-            GrantStatus::NoDeviceSpace => -7,
-            GrantStatus::PermissionDenied => -8,
-            GrantStatus::BadPage => -9,
-        }
+        self as i32
     }
 }
 
 /// The two values of Xen's errno.h that we use.
-#[derive(Clone, Copy)]
+#[derive(Clone, Copy, PartialEq, Eq, Debug)]
 pub enum Errno {
-    Einval,
-    Enospc,
+    Einval = -22,
+    Enospc = -28,
 }
 
 impl Errno {
@@ -47,18 +37,15 @@ impl Errno {
     pub fn number(self) -> i32
         ensures { result ≡ errno_number self }
     {
-        match self {
-            Errno::Einval => -22,
-            Errno::Enospc => -28,
-        }
+        self as i32
     }
 }
 
 /// Refusals that Xen has no number for.
-#[derive(Clone, Copy)]
+#[derive(Clone, Copy, PartialEq, Eq, Debug)]
 pub enum HouseStatus {
-    Busy,
-    BadRingIndex,
+    Busy = -41,
+    BadRingIndex = -42,
 }
 
 impl HouseStatus {
@@ -66,9 +53,6 @@ impl HouseStatus {
     pub fn number(self) -> i32
         ensures { result ≡ house_number self }
     {
-        match self {
-            HouseStatus::Busy => -41,
-            HouseStatus::BadRingIndex => -42,
-        }
+        self as i32
     }
 }

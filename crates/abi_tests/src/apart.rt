@@ -7,13 +7,10 @@ pub(crate) type Field = (usize, usize);
 /// The value of a field, summed up from its bytes: the first counts ones, each next one 256 times as much.
 pub(crate) fn value(bytes: &[u8], field: Field) -> u64 {
     let (at, width) = field;
-    let mut sum = 0u64;
-    let mut weight = 1u64;
-    for b in bytes.iter().skip(at).take(width) {
-        sum = sum.wrapping_add(weight.wrapping_mul(u64::from(*b)));
-        weight = weight.wrapping_mul(256);
-    }
-    sum
+    bytes.iter().skip(at).take(width).rev().fold(
+        0,
+        |sum: u64, b| sum.wrapping_mul(256).wrapping_add(u64::from(*b)),
+    )
 }
 
 /// The value of a field of two bytes whose upper half stands for the negative numbers.
@@ -27,13 +24,10 @@ pub(crate) fn signed(bytes: &[u8], at: usize) -> i64 {
     }
 }
 
-fn inside(k: usize, fields: &[Field]) -> bool {
-    for (at, width) in fields {
-        if *at <= k && k - *at < *width {
-            return true;
-        }
-    }
-    false
+// Whether the byte k lies in the field.
+fn in_field(k: usize, field: &Field) -> bool {
+    let (at, width) = *field;
+    at <= k && k - at < width
 }
 
 /// What was written of the test message `which` has each byte of `before` that lies in a field, and 0 elsewhere.
@@ -46,7 +40,8 @@ pub(crate) fn check_covered(
 ) {
     assert_eq!(rt; before.len(), after.len(), "{which}");
     for (k, (b, a)) in before.iter().zip(after.iter()).enumerate() {
-        let expected = if inside(k, fields) { *b } else { 0 };
+        let inside = fields.iter().any(|field| in_field(k, field));
+        let expected = if inside { *b } else { 0 };
         assert_eq!(rt; *a, expected, "{which}, byte {k}");
     }
 }
@@ -59,8 +54,8 @@ pub(crate) fn sample(which: usize, k: usize, fields: &[Field]) -> u8 {
         2 => (k.wrapping_add(1) & 0xff) as u8,
         3 => (255usize.wrapping_sub(k) & 0xff) as u8,
         _ => match fields.get(which.wrapping_sub(4)) {
-            Some((at, width)) => { if *at <= k && k - *at < *width { 255 } else { 0 } }
-            None => 0,
+            Some(field) if in_field(k, field) => 255,
+            _ => 0,
         },
     }
 }

@@ -2,6 +2,7 @@
 use crate::apart::*;
 use abi::{GrantEntry, RingHeader};
 use blkif::{BlockRequest, BlockResponse};
+use layout::Coded;
 use netif::{ReceiveRequest, ReceiveResponse, SendRequest, SendResponse};
 
 const ENTRY: [Field; 3] = [(0, 2), (2, 2), (4, 4)];

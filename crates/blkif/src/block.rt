@@ -1,10 +1,9 @@
 // Messages of a block ring, Xen's blkif_request and blkif_response.
-ghost use Rattle.std.specs.Prelude.{◌≡◌, ◌+◌, ◌≤◌, [], ◌∷◌};
+ghost use Rattle.std.specs.Prelude.{◌≡◌, ◌+◌, ◌≤◌, [], ◌∷◌, refl};
 ghost use Rattle.layout.specs.Layout.{written, read_at, Fit};
-ghost use Rattle.layout.specs.Message.{Decoded, Encoded};
 ghost use Rattle.blkif.specs.Block.{segment_layout, segment_of, segment_values, head_layout, block_request, block_response};
 
-use layout::le64;
+use layout::Coded;
 
 /// A block request has room for this many segments.
 pub const SEGMENTS: usize = 11;
@@ -50,19 +49,20 @@ fn segment_bytes(s: Segment) -> [u8; 8]
 fn head_bytes(operation: u8, count: u8, id: u64, sector: u64) -> [u8; 24]
     ensures { result ≡ written head_layout (operation ∷ count ∷ id ∷ sector ∷ []) }
 {
-    let [i0, i1, i2, i3, i4, i5, i6, i7] = le64(id);
-    let [s0, s1, s2, s3, s4, s5, s6, s7] = le64(sector);
+    let [i0, i1, i2, i3, i4, i5, i6, i7] = id.to_le_bytes();
+    let [s0, s1, s2, s3, s4, s5, s6, s7] = sector.to_le_bytes();
     [
         operation, count, 0, 0, 0, 0, 0, 0, i0, i1, i2, i3, i4, i5, i6, i7, s0, s1, s2, s3, s4, s5,
         s6, s7,
     ]
 }
 
-impl BlockRequest {
-    /// The request that a slot holds.
-    pub fn decode(slot: &[u8; 112]) -> BlockRequest
-        ensures { Decoded block_request slot.now result }
-    {
+impl Coded<112> for BlockRequest {
+    ghost format = { block_request };
+
+    ghost sized = { refl };
+
+    fn decode(slot: &[u8; 112]) -> BlockRequest {
         let [
             operation,
             count,
@@ -107,10 +107,7 @@ impl BlockRequest {
         }
     }
 
-    /// The bytes of a slot that holds the request.
-    pub fn encode(&self) -> [u8; 112]
-        ensures { Encoded block_request self.now result }
-    {
+    fn encode(&self) -> [u8; 112] {
         let mut out = [0u8; 112];
         out[0..24].copy_from_slice(&head_bytes(self.operation, self.count, self.id, self.sector));
         for i in 0..SEGMENTS {
@@ -129,11 +126,12 @@ pub struct BlockResponse {
     pub status: i16,
 }
 
-impl BlockResponse {
-    /// The response that sixteen bytes hold.
-    pub fn decode(bytes: &[u8; 16]) -> BlockResponse
-        ensures { Decoded block_response bytes.now result }
-    {
+impl Coded<16> for BlockResponse {
+    ghost format = { block_response };
+
+    ghost sized = { refl };
+
+    fn decode(bytes: &[u8; 16]) -> BlockResponse {
         let [
             i0,
             i1,
@@ -159,29 +157,17 @@ impl BlockResponse {
         }
     }
 
-    /// The sixteen bytes of the response.
-    pub fn encode(self) -> [u8; 16]
-        ensures { Encoded block_response self result }
-    {
-        let [i0, i1, i2, i3, i4, i5, i6, i7] = self.id.to_le_bytes();
-        let [s0, s1] = self.status.to_le_bytes();
+    fn encode(&self) -> [u8; 16] {
+        let BlockResponse {
+            id,
+            operation,
+            status,
+        } = *self;
+        let [i0, i1, i2, i3, i4, i5, i6, i7] = id.to_le_bytes();
+        let [operation] = operation.to_le_bytes();
+        let [s0, s1] = status.to_le_bytes();
         [
-            i0,
-            i1,
-            i2,
-            i3,
-            i4,
-            i5,
-            i6,
-            i7,
-            self.operation,
-            0,
-            s0,
-            s1,
-            0,
-            0,
-            0,
-            0,
+            i0, i1, i2, i3, i4, i5, i6, i7, operation, 0, s0, s1, 0, 0, 0, 0,
         ]
     }
 }

@@ -1,6 +1,7 @@
 // Messages as lists of fields and gaps, lowest byte first: described once, with the laws that serve every codec.
+// The bytes of a number are std's `to_le_bytes`, which promises the bytes that `le` gives.
 #![tactic(auto)]
 
-mod words;
+mod coded;
 
-pub use words::{le32, le64};
+pub use coded::Coded;

@@ -1,6 +1,8 @@
 // Messages of a ring for receiving packets, Xen's netif_rx_request and netif_rx_response.
-ghost use Rattle.layout.specs.Message.{Decoded, Encoded};
+ghost use Rattle.std.specs.Prelude.{refl};
 ghost use Rattle.netif.specs.Receive.{receive_request, receive_response};
+
+use layout::Coded;
 
 /// A frame, granted under `reference`, that a packet may be put into.
 #[derive(Clone, Copy)]
@@ -9,11 +11,12 @@ pub struct ReceiveRequest {
     pub reference: u32,
 }
 
-impl ReceiveRequest {
-    /// The request that a slot holds.
-    pub fn decode(slot: &[u8; 8]) -> ReceiveRequest
-        ensures { Decoded receive_request slot.now result }
-    {
+impl Coded<8> for ReceiveRequest {
+    ghost format = { receive_request };
+
+    ghost sized = { refl };
+
+    fn decode(slot: &[u8; 8]) -> ReceiveRequest {
         let [i0, i1, _, _, r0, r1, r2, r3] = *slot;
         ReceiveRequest {
             id: u16::from_le_bytes([i0, i1]),
@@ -21,12 +24,10 @@ impl ReceiveRequest {
         }
     }
 
-    /// The bytes of a slot that holds the request.
-    pub fn encode(self) -> [u8; 8]
-        ensures { Encoded receive_request self result }
-    {
-        let [i0, i1] = self.id.to_le_bytes();
-        let [r0, r1, r2, r3] = self.reference.to_le_bytes();
+    fn encode(&self) -> [u8; 8] {
+        let ReceiveRequest { id, reference } = *self;
+        let [i0, i1] = id.to_le_bytes();
+        let [r0, r1, r2, r3] = reference.to_le_bytes();
         [i0, i1, 0, 0, r0, r1, r2, r3]
     }
 }
@@ -40,11 +41,12 @@ pub struct ReceiveResponse {
     pub status: i16,
 }
 
-impl ReceiveResponse {
-    /// The response that eight bytes hold.
-    pub fn decode(bytes: &[u8; 8]) -> ReceiveResponse
-        ensures { Decoded receive_response bytes.now result }
-    {
+impl Coded<8> for ReceiveResponse {
+    ghost format = { receive_response };
+
+    ghost sized = { refl };
+
+    fn decode(bytes: &[u8; 8]) -> ReceiveResponse {
         let [i0, i1, o0, o1, f0, f1, s0, s1] = *bytes;
         ReceiveResponse {
             id: u16::from_le_bytes([i0, i1]),
@@ -54,14 +56,17 @@ impl ReceiveResponse {
         }
     }
 
-    /// The eight bytes of the response.
-    pub fn encode(self) -> [u8; 8]
-        ensures { Encoded receive_response self result }
-    {
-        let [i0, i1] = self.id.to_le_bytes();
-        let [o0, o1] = self.offset.to_le_bytes();
-        let [f0, f1] = self.flags.to_le_bytes();
-        let [s0, s1] = self.status.to_le_bytes();
+    fn encode(&self) -> [u8; 8] {
+        let ReceiveResponse {
+            id,
+            offset,
+            flags,
+            status,
+        } = *self;
+        let [i0, i1] = id.to_le_bytes();
+        let [o0, o1] = offset.to_le_bytes();
+        let [f0, f1] = flags.to_le_bytes();
+        let [s0, s1] = status.to_le_bytes();
         [i0, i1, o0, o1, f0, f1, s0, s1]
     }
 }

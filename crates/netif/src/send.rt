@@ -1,6 +1,8 @@
 // Messages of a ring for sending packets, Xen's netif_tx_request and netif_tx_response.
-ghost use Rattle.layout.specs.Message.{Decoded, Encoded};
+ghost use Rattle.std.specs.Prelude.{refl};
 ghost use Rattle.netif.specs.Send.{send_request, send_response};
+
+use layout::Coded;
 
 /// A packet of `size` bytes that lies at `offset` in the frame granted under `reference`.
 #[derive(Clone, Copy)]
@@ -12,11 +14,12 @@ pub struct SendRequest {
     pub size: u16,
 }
 
-impl SendRequest {
-    /// The request that a slot holds.
-    pub fn decode(slot: &[u8; 12]) -> SendRequest
-        ensures { Decoded send_request slot.now result }
-    {
+impl Coded<12> for SendRequest {
+    ghost format = { send_request };
+
+    ghost sized = { refl };
+
+    fn decode(slot: &[u8; 12]) -> SendRequest {
         let [r0, r1, r2, r3, o0, o1, f0, f1, i0, i1, s0, s1] = *slot;
         SendRequest {
             reference: u32::from_le_bytes([r0, r1, r2, r3]),
@@ -27,15 +30,19 @@ impl SendRequest {
         }
     }
 
-    /// The bytes of a slot that holds the request.
-    pub fn encode(self) -> [u8; 12]
-        ensures { Encoded send_request self result }
-    {
-        let [r0, r1, r2, r3] = self.reference.to_le_bytes();
-        let [o0, o1] = self.offset.to_le_bytes();
-        let [f0, f1] = self.flags.to_le_bytes();
-        let [i0, i1] = self.id.to_le_bytes();
-        let [s0, s1] = self.size.to_le_bytes();
+    fn encode(&self) -> [u8; 12] {
+        let SendRequest {
+            reference,
+            offset,
+            flags,
+            id,
+            size,
+        } = *self;
+        let [r0, r1, r2, r3] = reference.to_le_bytes();
+        let [o0, o1] = offset.to_le_bytes();
+        let [f0, f1] = flags.to_le_bytes();
+        let [i0, i1] = id.to_le_bytes();
+        let [s0, s1] = size.to_le_bytes();
         [r0, r1, r2, r3, o0, o1, f0, f1, i0, i1, s0, s1]
     }
 }
@@ -47,11 +54,12 @@ pub struct SendResponse {
     pub status: i16,
 }
 
-impl SendResponse {
-    /// The response that four bytes hold.
-    pub fn decode(bytes: &[u8; 4]) -> SendResponse
-        ensures { Decoded send_response bytes.now result }
-    {
+impl Coded<4> for SendResponse {
+    ghost format = { send_response };
+
+    ghost sized = { refl };
+
+    fn decode(bytes: &[u8; 4]) -> SendResponse {
         let [i0, i1, s0, s1] = *bytes;
         SendResponse {
             id: u16::from_le_bytes([i0, i1]),
@@ -59,12 +67,10 @@ impl SendResponse {
         }
     }
 
-    /// The four bytes of the response.
-    pub fn encode(self) -> [u8; 4]
-        ensures { Encoded send_response self result }
-    {
-        let [i0, i1] = self.id.to_le_bytes();
-        let [s0, s1] = self.status.to_le_bytes();
+    fn encode(&self) -> [u8; 4] {
+        let SendResponse { id, status } = *self;
+        let [i0, i1] = id.to_le_bytes();
+        let [s0, s1] = status.to_le_bytes();
         [i0, i1, s0, s1]
     }
 }

@@ -1,2 +1,2 @@
+pub mod InPage
 pub mod Pages
-pub mod Copied

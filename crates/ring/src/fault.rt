@@ -13,7 +13,7 @@ const NOT_SUPPORTED: i16 = -2;
 const REFUSED: i16 = -1;
 
 /// The layer in which a fault was met.
-#[derive(Clone, Copy)]
+#[derive(Clone, Copy, PartialEq, Eq, Debug)]
 pub enum Layer {
     InGrant,
     InDevice,
@@ -72,19 +72,16 @@ impl RingFault {
         ensures { result ≡ fault_number self }
     {
         match self {
-            RingFault::BadKind => Errno::Einval.number(),
+            RingFault::BadKind | RingFault::NotLive | RingFault::BadBay => Errno::Einval.number(),
             RingFault::NoConnection => Errno::Enospc.number(),
-            RingFault::NotLive => Errno::Einval.number(),
             RingFault::BadIndex => HouseStatus::BadRingIndex.number(),
-            RingFault::Busy => HouseStatus::Busy.number(),
-            RingFault::BadBay => Errno::Einval.number(),
+            RingFault::Busy | RingFault::HasJobs => HouseStatus::Busy.number(),
             RingFault::NoJob => GrantStatus::BadHandle.number(),
-            RingFault::HasJobs => HouseStatus::Busy.number(),
-            RingFault::BadOperation => i32::from(NOT_SUPPORTED),
-            RingFault::BadCount => i32::from(REFUSED),
-            RingFault::BadSegment => i32::from(REFUSED),
-            RingFault::BadSpan => i32::from(REFUSED),
-            RingFault::Unfit => i32::from(REFUSED),
+            RingFault::BadOperation
+            | RingFault::BadCount
+            | RingFault::BadSegment
+            | RingFault::BadSpan
+            | RingFault::Unfit => i32::from(self.status()),
             RingFault::OfGrant(fault) => fault.number(),
             RingFault::OfDevice(fault) => fault.number(),
         }

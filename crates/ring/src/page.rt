@@ -1,22 +1,22 @@
 // The shared page of a ring, inside the memory that is lent to each function.
-ghost use Rattle.std.specs.Prelude.{◌≡◌};
+ghost use Rattle.std.specs.Prelude.{◌≡◌, length};
 ghost use Rattle.layout.specs.Layout.{le};
-ghost use Rattle.frame.specs.Memory.{Written};
+ghost use Rattle.rules.specs.Refusal.{granting};
+ghost use Rattle.frame.specs.Memory.{part_verdict, frame_bytes, Written};
 ghost use Rattle.ring.specs.Page.{offset_of, word_in, request_in, fresh_header};
 
-use abi::{Kind, RingHeader};
-use blkif::BlockRequest;
+use abi::{Kind, PAGE_SIZE, RingHeader};
 use frame::{FrameFault, read_part, write_part};
-use netif::{ReceiveRequest, SendRequest};
+use layout::Coded;
 use ringpage::Request;
 
-/// The words of the header.
-#[derive(Clone, Copy)]
+/// The words of the header, each by its place in the page.
+#[derive(Clone, Copy, PartialEq, Eq, Debug)]
 pub enum Word {
-    ReqProd,
-    ReqEvent,
-    RspProd,
-    RspEvent,
+    ReqProd = 0,
+    ReqEvent = 4,
+    RspProd = 8,
+    RspEvent = 12,
 }
 
 impl Word {
@@ -24,12 +24,7 @@ impl Word {
     pub fn offset(self) -> u32
         ensures { result ≡ offset_of self }
     {
-        match self {
-            Word::ReqProd => 0,
-            Word::ReqEvent => 4,
-            Word::RspProd => 8,
-            Word::RspEvent => 12,
-        }
+        self as u32
     }
 }
 
@@ -46,31 +41,22 @@ pub fn read_word(memory: &[u8], page: u32, word: Word) -> Result<u32, FrameFault
 pub fn set_word(memory: &mut [u8], page: u32, word: Word, value: u32) -> Result<(), FrameFault>
     ensures { Written memory.old page (offset_of word) (le 4 value) result memory.new }
 {
-    write_part(memory, page, word.offset(), &layout::le32(value))
+    write_part(memory, page, word.offset(), &value.to_le_bytes())
+}
+
+// The page in this frame.
+fn page_of(memory: &[u8], page: u32) -> Result<&[u8; PAGE_SIZE], FrameFault>
+    ensures { granting (λ p. p.now) result ≡ granting (λ _. frame_bytes page memory.now) (part_verdict (length memory.now) page 0 4096) }
+{
+    let (pages, _) = memory.as_chunks::<PAGE_SIZE>();
+    pages.get(page as usize).ok_or(FrameFault::NoFrame)
 }
 
 /// The request in the slot that an index uses. The slot is copied out once, and only the copy is looked at.
 pub fn copy_request(memory: &[u8], page: u32, kind: Kind, index: u32) -> Result<Request, FrameFault>
     ensures { result ≡ request_in memory.now page kind index }
 {
-    let start = kind.slot_start(index) as u32;
-    match kind {
-        Kind::Block => {
-            let mut slot = [0u8; 112];
-            read_part(memory, page, start, &mut slot)?;
-            Ok(Request::OfBlock(BlockRequest::decode(&slot)))
-        }
-        Kind::Send => {
-            let mut slot = [0u8; 12];
-            read_part(memory, page, start, &mut slot)?;
-            Ok(Request::OfSend(SendRequest::decode(&slot)))
-        }
-        Kind::Receive => {
-            let mut slot = [0u8; 8];
-            read_part(memory, page, start, &mut slot)?;
-            Ok(Request::OfReceive(ReceiveRequest::decode(&slot)))
-        }
-    }
+    Ok(Request::copy_from(page_of(memory, page)?, kind, index))
 }
 
 /// Writes the header of a new ring: 0, 1, 0, 1, and zeros up to the first slot.

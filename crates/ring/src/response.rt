@@ -7,6 +7,7 @@ ghost use Rattle.ring.specs.Response.{response_bytes};
 use abi::Kind;
 use blkif::BlockResponse;
 use frame::{FrameFault, write_part};
+use layout::Coded;
 use netif::{ReceiveResponse, SendResponse};
 
 /// What a response says: the request's id and operation, and what became of it.
@@ -29,6 +30,8 @@ pub fn write_response(
 {
     let start = kind.slot_start(index) as u32;
     let status = reply.status;
+    // The id of a network message has two bytes.
+    let short_id = (reply.id & 0xffff) as u16;
     match kind {
         Kind::Block => {
             let response = BlockResponse {
@@ -40,14 +43,14 @@ pub fn write_response(
         }
         Kind::Send => {
             let response = SendResponse {
-                id: (reply.id & 0xffff) as u16,
+                id: short_id,
                 status,
             };
             write_part(memory, page, start, &response.encode())
         }
         Kind::Receive => {
             let response = ReceiveResponse {
-                id: (reply.id & 0xffff) as u16,
+                id: short_id,
                 offset: 0,
                 flags: 0,
                 status,

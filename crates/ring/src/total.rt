@@ -1,36 +1,21 @@
 // The shared page of a ring without a refusal: a page that the memory does not have reads as zeros, and takes no write.
-ghost use Rattle.std.specs.Prelude.{◌≡◌, ◌+◌, ◌*◌, length};
+ghost use Rattle.std.specs.Prelude.{◌≡◌};
 ghost use Rattle.layout.specs.Layout.{le};
 ghost use Rattle.abi.specs.Page.{slot_start};
-ghost use Rattle.rules.specs.Refusal.{after_ok};
-ghost use Rattle.frame.specs.Memory.{part_verdict, bytes_at};
 ghost use Rattle.ring.specs.Page.{offset_of, fresh_header};
 ghost use Rattle.ring.specs.Response.{response_bytes};
 ghost use Rattle.ring.specs.Total.{word_or_zero, request_or_zeros, Put};
 
-use crate::page::{Word, read_word, set_word, write_fresh_header};
+use crate::page::{Word, copy_request, read_word, set_word, write_fresh_header};
 use crate::response::{Reply, write_response};
-use abi::Kind;
-use blkif::BlockRequest;
-use frame::read_part;
-use netif::{ReceiveRequest, SendRequest};
+use abi::{Kind, PAGE_SIZE};
 use ringpage::Request;
-
-// Copies bytes of a page over the buffer, or leaves it where the memory does not have them.
-fn copy(memory: &[u8], page: u32, offset: u32, buffer: &mut [u8])
-    ensures { buffer.new ≡ after_ok (part_verdict (length memory.now) page offset (length buffer.old)) buffer.old (λ _. bytes_at (4096 * page + offset) (length buffer.old) memory.now) }
-{
-    let _ = read_part(memory, page, offset, buffer);
-}
 
 /// A word of the header of the page in this frame.
 pub fn word_or_zero(memory: &[u8], page: u32, word: Word) -> u32
     ensures { result ≡ word_or_zero memory.now page word }
 {
-    match read_word(memory, page, word) {
-        Ok(value) => value,
-        Err(_) => 0,
-    }
+    read_word(memory, page, word).unwrap_or(0)
 }
 
 /// Writes a word of the header.
@@ -44,24 +29,11 @@ pub fn put_word(memory: &mut [u8], page: u32, word: Word, value: u32)
 pub fn request_or_zeros(memory: &[u8], page: u32, kind: Kind, index: u32) -> Request
     ensures { result ≡ request_or_zeros memory.now page kind index }
 {
-    let start = kind.slot_start(index) as u32;
-    match kind {
-        Kind::Block => {
-            let mut slot = [0u8; 112];
-            copy(memory, page, start, &mut slot);
-            Request::OfBlock(BlockRequest::decode(&slot))
-        }
-        Kind::Send => {
-            let mut slot = [0u8; 12];
-            copy(memory, page, start, &mut slot);
-            Request::OfSend(SendRequest::decode(&slot))
-        }
-        Kind::Receive => {
-            let mut slot = [0u8; 8];
-            copy(memory, page, start, &mut slot);
-            Request::OfReceive(ReceiveRequest::decode(&slot))
-        }
-    }
+    copy_request(memory, page, kind, index).unwrap_or_else(|_| Request::copy_from(
+        &[0; PAGE_SIZE],
+        kind,
+        index,
+    ))
 }
 
 /// Writes the header of a new ring: 0, 1, 0, 1, and zeros up to the first slot.

@@ -1,19 +1,12 @@
-use Rattle.std.proofs.Common.{ap}
-use Rattle.ringpage.specs.declared.slot.Request.TheVariants.{OfBlock, OfSend, OfReceive}
-use Rattle.ring.proofs.Copied.{request_copied}
+use Rattle.std.proofs.Common.{◌≡◌, replicate, rules}
+use Rattle.std.specs.Result.{MatchResult}
+use Rattle.abi.specs.Page.{slot_start}
+use Rattle.ringpage.specs.Slot.{request_at}
+use Rattle.ring.proofs.InPage.{request_copied}
 use Rattle.ring.proofs.total.request_or_zeros.Goals as goal
 
-pub returns-in-Block : goal.returns-in-Block
-returns-in-Block c =
-    request_copied c.args.kind _ c.args.memory.now c.copy.new.buffer c.args.page c.slot_start-start.result c.args.index _
-    c.in-Block.is c.slot_start-start.ensures.value c.copy.ensures (ap OfBlock c.decode.ensures.value)
-
-pub returns-in-Send : goal.returns-in-Send
-returns-in-Send c =
-    request_copied c.args.kind _ c.args.memory.now c.copy-in-Send.new.buffer c.args.page c.slot_start-start.result c.args.index _
-    c.in-Send.is c.slot_start-start.ensures.value c.copy-in-Send.ensures (ap OfSend c.decode-in-Send.ensures.value)
-
-pub returns-in-Receive : goal.returns-in-Receive
-returns-in-Receive c =
-    request_copied c.args.kind _ c.args.memory.now c.copy-in-Receive.new.buffer c.args.page c.slot_start-start.result c.args.index _
-    c.in-Receive.is c.slot_start-start.ensures.value c.copy-in-Receive.ensures (ap OfReceive c.decode-in-Receive.ensures.value)
+pub returns : goal.returns
+returns c =
+    let a = c.args in
+    let h : MatchResult c.copy_request.result (λ y. c.unwrap_or_else.result ≡ y) (λ e. c.unwrap_or_else.result ≡ request_at a.kind (slot_start a.kind a.index) (replicate 4096 0)) = search rules in
+    request_copied a.kind a.memory.now a.page a.index c.copy_request.result c.unwrap_or_else.result c.copy_request.ensures h

@@ -1,5 +1,0 @@
-use borrow.Author.Rules.{rules}
-use Rattle.netif.proofs.send.SendRequest.encode.Goals as goal
-
-pub returns : goal.returns
-returns c = search rules
