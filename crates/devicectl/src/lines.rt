@@ -2,17 +2,25 @@
 use crate::act::Command;
 use crate::failure::Failure;
 use device::{Direction, Order};
-use std::alloc::Global;
+use hex::FromHexError;
+use std::alloc::{AllocError, Global};
+use std::str::FromStr;
 
 /// The most bytes that one line fills, as many as the largest disk has.
 const MOST_FILLED: u32 = 65_536;
 
-/// A device to begin with, or the script's end.
+// What is expected of a ticket, of a length or an offset, and of a place.
+const TICKET: &str = "a ticket is a number from 0 to 255";
+
+const SIZE: &str = "a length or an offset is a number of 32 bits";
+
+const PLACE: &str = "a place is a number of 64 bits";
+
+/// A device to begin with.
 #[derive(Clone, Copy)]
 pub(crate) enum Start {
     Disk(u32),
     Wire,
-    End,
 }
 
 /// A line: another device, or a command for this one, with the bytes that it fills or drains.
@@ -20,6 +28,13 @@ pub(crate) enum Start {
 pub(crate) enum Line {
     Make(Start),
     Act(Command, Vec<u8>),
+}
+
+fn parsed<T: FromStr>(word: &str, expected: &'static str) -> Result<T, Failure>
+where
+    T::Err: Drop,
+{
+    word.parse().map_err(|_| Failure::Line(expected))
 }
 
 fn direction(word: &str) -> Result<Direction, Failure> {
@@ -30,128 +45,61 @@ fn direction(word: &str) -> Result<Direction, Failure> {
     }
 }
 
-fn byte(word: &str) -> Result<u8, Failure> {
-    match word.parse::<u8>() {
-        Ok(n) => Ok(n),
-        Err(_) => Err(Failure::Line("a ticket is a number from 0 to 255")),
-    }
-}
-
-fn number(word: &str) -> Result<u32, Failure> {
-    match word.parse::<u32>() {
-        Ok(n) => Ok(n),
-        Err(_) => Err(Failure::Line("a length or an offset is a number of 32 bits")),
-    }
-}
-
-fn place(word: &str) -> Result<u64, Failure> {
-    match word.parse::<u64>() {
-        Ok(n) => Ok(n),
-        Err(_) => Err(Failure::Line("a place is a number of 64 bits")),
-    }
-}
-
-fn digit(c: u8) -> Result<u8, Failure> {
-    match c {
-        b'0'..=b'9' => Ok(c - b'0'),
-        b'a'..=b'f' => Ok(c - b'a' + 10),
-        b'A'..=b'F' => Ok(c - b'A' + 10),
-        _ => Err(Failure::Line("bytes are hexadecimal digits")),
-    }
-}
-
 fn bytes(heap: Global, word: &str) -> Result<Vec<u8>, Failure> {
-    let mut out = Vec::new(heap);
-    let mut high = None;
-    for c in word.bytes() {
-        let low = digit(c)?;
-        match high {
-            None => high = Some(low),
-            Some(h) => {
-                out.push((h & 15) * 16 + (low & 15))?;
-                high = None;
-            }
-        }
+    if !word.bytes().all(|c| c.is_ascii_hexdigit()) {
+        return Err(Failure::Line("bytes are hexadecimal digits"));
     }
-    if high.is_some() {
-        return Err(Failure::Line("bytes have two hexadecimal digits each"));
-    }
-    Ok(out)
+    hex::decode(heap, word).map_err(|error| match error {
+        FromHexError::OutOfMemory => Failure::Memory(AllocError),
+        _ => Failure::Line("bytes have two hexadecimal digits each"),
+    })
 }
 
 fn zeros(heap: Global, size: u32) -> Result<Vec<u8>, Failure> {
     if size > MOST_FILLED {
         return Err(Failure::Line("a fill takes at most 65536 bytes"));
     }
-    let mut out = Vec::new(heap);
-    for _ in 0..size {
-        out.push(0)?;
-    }
-    Ok(out)
-}
-
-fn one(heap: Global, name: &str) -> Result<Line, Failure> {
-    match name {
-        "wire" => Ok(Line::Make(Start::Wire)),
-        "full" => Ok(Line::Act(Command::Full, Vec::new(heap))),
-        "ready" => Ok(Line::Act(Command::Ready, Vec::new(heap))),
-        _ => Err(Failure::NoCommand),
-    }
-}
-
-fn two(heap: Global, name: &str, a: &str) -> Result<Line, Failure> {
-    match name {
-        "disk" => Ok(Line::Make(Start::Disk(number(a)?))),
-        "done" => Ok(Line::Act(Command::Done(byte(a)?), Vec::new(heap))),
-        _ => Err(Failure::NoCommand),
-    }
-}
-
-fn three(heap: Global, name: &str, a: &str, b: &str) -> Result<Line, Failure> {
-    match name {
-        "drain" => Ok(Line::Act(Command::Drain(byte(a)?, number(b)?), Vec::new(heap))),
-        _ => Err(Failure::NoCommand),
-    }
-}
-
-fn four(heap: Global, name: &str, a: &str, b: &str, c: &str) -> Result<Line, Failure> {
-    match name {
-        "fits" => Ok(Line::Act(
-            Command::Fits(direction(a)?, place(b)?, number(c)?),
-            Vec::new(heap),
-        )),
-        "fill" => Ok(Line::Act(
-            Command::Fill(byte(a)?, number(b)?),
-            zeros(heap, number(c)?)?,
-        )),
-        "drain" => Ok(Line::Act(Command::Drain(byte(a)?, number(b)?), bytes(heap, c)?)),
-        _ => Err(Failure::NoCommand),
-    }
-}
-
-fn five(heap: Global, name: &str, a: &str, b: &str, c: &str, d: &str) -> Result<Line, Failure> {
-    match name {
-        "accept" => {
-            let order = Order {
-                ticket: byte(a)?,
-                direction: direction(b)?,
-                place: place(c)?,
-                length: number(d)?,
-            };
-            Ok(Line::Act(Command::Accept(order), Vec::new(heap)))
-        }
-        _ => Err(Failure::NoCommand),
-    }
+    Ok(vec![in heap; 0u8; size as usize]?)
 }
 
 /// What the words of a line ask for.
 pub(crate) fn parse(heap: Global, words: &[&str]) -> Result<Line, Failure> {
+    let none = Vec::new(heap);
     match words {
-        [name] => one(heap, name),
-        [name, a] => two(heap, name, a),
-        [name, a, b] => three(heap, name, a, b),
-        [name, a, b, c] => four(heap, name, a, b, c),
-        [name, a, b, c, d] => five(heap, name, a, b, c, d),
+        ["disk", sectors] => Ok(Line::Make(Start::Disk(parsed(sectors, SIZE)?))),
+        ["wire"] => Ok(Line::Make(Start::Wire)),
+        ["fits", way, place, length] => Ok(Line::Act(
+            Command::Fits(
+                direction(way)?,
+                parsed(place, PLACE)?,
+                parsed(length, SIZE)?,
+            ),
+            none,
+        )),
+        ["full"] => Ok(Line::Act(Command::Full, none)),
+        ["ready"] => Ok(Line::Act(Command::Ready, none)),
+        ["accept", ticket, way, place, length] => Ok(Line::Act(
+            Command::Accept(Order {
+                ticket: parsed(ticket, TICKET)?,
+                direction: direction(way)?,
+                place: parsed(place, PLACE)?,
+                length: parsed(length, SIZE)?,
+            }),
+            none,
+        )),
+        ["fill", ticket, at, length] => Ok(Line::Act(
+            Command::Fill(parsed(ticket, TICKET)?, parsed(at, SIZE)?),
+            zeros(heap, parsed(length, SIZE)?)?,
+        )),
+        ["drain", ticket, at] => Ok(Line::Act(
+            Command::Drain(parsed(ticket, TICKET)?, parsed(at, SIZE)?),
+            none,
+        )),
+        ["drain", ticket, at, digits] => Ok(Line::Act(
+            Command::Drain(parsed(ticket, TICKET)?, parsed(at, SIZE)?),
+            bytes(heap, digits)?,
+        )),
+        ["done", ticket] => Ok(Line::Act(Command::Done(parsed(ticket, TICKET)?), none)),
         _ => Err(Failure::NoCommand),
     }
 }

@@ -1,16 +1,19 @@
 // devicectl: drives a disk or a wire by a script on standard input, and prints each line with its answer.
 #![tactic(auto)]
 
+ghost use Rattle.devicectl.specs.Input.{ReadsOn};
+
 mod act;
 mod failure;
 mod lines;
+mod script;
 
 use act::{Answer, act};
-use device::{Device, DeviceFault, Direction, Order};
+use device::{Device, Direction, Order};
 use disk::Disk;
 use failure::Failure;
-use lines::{Line, Start, parse};
-use std::alloc::Global;
+use lines::{Line, Start};
+use script::{Script, words};
 use std::env;
 use std::process::ExitCode;
 use wire::{Packet, Wire};
@@ -29,53 +32,18 @@ const SECTOR: usize = 512;
 // A disk of more sectors than this is refused, so no larger memory is needed to be refused.
 const TOO_MANY: u32 = 129;
 
-// The script so far: the line that was read last, and its number.
-#[derive(Drop)]
-struct Script {
-    text: String,
-    number: u64,
-}
-
-// Reads the next line: false at the script's end.
-fn read(rt: &HostRuntime, script: &mut Script) -> Result<bool, Failure> {
-    script.text.clear();
-    if rt.read_line(&mut script.text)? == 0 {
-        return Ok(false);
-    }
-    script.number = script.number.saturating_add(1);
-    Ok(true)
-}
-
-// The words of a line, up to a comment.
-fn words<'a>(heap: Global, text: &'a str) -> Result<Vec<&'a str>, Failure> {
-    let mut out = Vec::new(heap);
-    for word in text.split_whitespace() {
-        if word.starts_with('#') {
-            break;
-        }
-        out.push(word)?;
-    }
-    Ok(out)
-}
-
-// What the next line that is not blank asks for: the end, where the script ends.
-fn next(rt: &HostRuntime, script: &mut Script) -> Result<Line, Failure> {
-    for _ in 0..u64::MAX {
-        if !read(rt, script)? {
-            break;
-        }
-        let words = words(rt.alloc(), script.text.as_str())?;
-        if !words.is_empty() {
-            return parse(rt.alloc(), words.as_slice());
-        }
-    }
-    Ok(Line::Make(Start::End))
-}
+// No order: what the disk's slots hold before they are used.
+const NO_ORDER: Order = Order {
+    ticket: 0,
+    direction: Direction::Inward,
+    place: 0,
+    length: 0,
+};
 
 // Prints the words of the line with single blanks between, and the arrow.
 fn echo(rt: &HostRuntime, script: &Script) -> Result<(), Failure> {
     let words = words(rt.alloc(), script.text.as_str())?;
-    for word in words.as_slice() {
+    for word in &words {
         print!(rt; "{word} ")?;
     }
     Ok(print!(rt; "-> ")?)
@@ -102,10 +70,12 @@ fn drive<D: Device>(
     rt: &HostRuntime,
     script: &mut Script,
     device: &mut D,
-) -> Result<Start, Failure> {
-    for _ in 0..u64::MAX {
-        match next(rt, script)? {
-            Line::Make(start) => return Ok(start),
+) -> Result<Option<Start>, Failure>
+    ensures { ReadsOn script.old result script.new }
+{
+    while let Some(line) = script.next() {
+        match line? {
+            Line::Make(start) => return Ok(Some(start)),
             Line::Act(command, mut bytes) => {
                 echo(rt, script)?;
                 let answer = act(device, command, bytes.as_mut_slice());
@@ -113,88 +83,75 @@ fn drive<D: Device>(
             }
         }
     }
-    Ok(Start::End)
+    Ok(None)
 }
 
 // Without a device only a line that makes one is good.
-fn wait(rt: &HostRuntime, script: &mut Script) -> Result<Start, Failure> {
-    match next(rt, script)? {
-        Line::Make(start) => Ok(start),
-        Line::Act(_, _) => Err(Failure::NoDevice),
+fn wait(script: &mut Script) -> Result<Option<Start>, Failure>
+    ensures { ReadsOn script.old result script.new }
+{
+    match script.next().transpose()? {
+        None => Ok(None),
+        Some(Line::Make(start)) => Ok(Some(start)),
+        Some(Line::Act(..)) => Err(Failure::NoDevice),
     }
 }
 
-fn refused(rt: &HostRuntime, script: &mut Script, fault: DeviceFault) -> Result<Start, Failure> {
-    let number = fault.number();
-    println!(rt; "{number}")?;
-    wait(rt, script)
-}
-
-fn with_disk(rt: &HostRuntime, script: &mut Script, sectors: u32) -> Result<Start, Failure> {
+fn with_disk(rt: &HostRuntime, script: &mut Script, sectors: u32) -> Result<Option<Start>, Failure>
+    ensures { ReadsOn script.old result script.new }
+{
     echo(rt, script)?;
     let mut memory = vec![in rt.alloc(); 0u8; sectors.min(TOO_MANY) as usize * SECTOR]?;
-    let mut slots = [Order {
-        ticket: 0,
-        direction: Direction::Inward,
-        place: 0,
-        length: 0,
-    }; 4];
+    let mut slots = [NO_ORDER; 4];
     if let Err(fault) = disk::check(memory.as_slice(), &slots) {
-        return refused(rt, script, fault);
+        println!(rt; "{}", fault.number())?;
+        return wait(script);
     }
     println!(rt; "0")?;
     let mut disk = Disk::new(memory.as_mut_slice(), &mut slots);
     drive(rt, script, &mut disk)
 }
 
-fn with_wire(rt: &HostRuntime, script: &mut Script) -> Result<Start, Failure> {
+fn with_wire(rt: &HostRuntime, script: &mut Script) -> Result<Option<Start>, Failure>
+    ensures { ReadsOn script.old result script.new }
+{
     echo(rt, script)?;
     let mut slots = [Packet::new(); 8];
     if let Err(fault) = wire::check(&slots) {
-        return refused(rt, script, fault);
+        println!(rt; "{}", fault.number())?;
+        return wait(script);
     }
     println!(rt; "0")?;
     let mut wire = Wire::new(&mut slots);
     drive(rt, script, &mut wire)
 }
 
+// Whether only the usage was asked for.
+fn wants_usage(rt: &HostRuntime) -> Result<bool, Failure> {
+    match env::args(rt)?.nth(1) {
+        None => Ok(false),
+        Some(word) if word.as_str() == "--help" => Ok(true),
+        Some(_) => Err(Failure::Arguments),
+    }
+}
+
 fn run(rt: &HostRuntime, script: &mut Script) -> Result<(), Failure> {
-    let mut next = wait(rt, script)?;
-    for _ in 0..u64::MAX {
-        match next {
-            Start::Disk(sectors) => next = with_disk(rt, script, sectors)?,
-            Start::Wire => next = with_wire(rt, script)?,
-            Start::End => break,
-        }
+    if wants_usage(rt)? {
+        return Ok(println!(rt; "{USAGE}")?);
+    }
+    let mut next = wait(script)?;
+    while let Some(start) = next {
+        next = match start {
+            Start::Disk(sectors) => with_disk(rt, script, sectors)?,
+            Start::Wire => with_wire(rt, script)?,
+        };
     }
     Ok(())
 }
 
-// Whether only the usage was asked for.
-fn wants_usage(rt: &HostRuntime) -> Result<bool, Failure> {
-    for word in env::args(rt)?.skip(1) {
-        if word.as_str() == "--help" {
-            return Ok(true);
-        }
-        return Err(Failure::Arguments);
-    }
-    Ok(false)
-}
-
 fn main(rt: HostRuntime) -> ExitCode {
-    let mut script = Script {
-        text: String::new(rt.alloc()),
-        number: 0,
-    };
-    let done = match wants_usage(&rt) {
-        Ok(true) => match println!(rt; "{USAGE}") {
-            Ok(()) => Ok(()),
-            Err(error) => Err(Failure::System(error)),
-        },
-        Ok(false) => run(&rt, &mut script),
-        Err(failure) => Err(failure),
-    };
-    match done {
+    let mut script = Script::new(&rt);
+    match run(&rt, &mut script) {
         Ok(()) => ExitCode::SUCCESS,
         Err(failure) => {
             let n = script.number;

@@ -1,35 +1,36 @@
 // The script on standard input, and what is printed of it.
+ghost use Rattle.std.specs.Iterator.{at_most};
+ghost use Rattle.std.specs.Io.Iter.{lines_left};
+
 use crate::failure::Failure;
 use answer::AnswerParts;
-use script::{AnswerText, Command, Echo};
+use script::{AnswerText, Command, Echo, LineError};
+use std::alloc::Global;
+use std::io::{Lines, StdinLock};
 
-/// The script so far: the line that was read last, and its number.
+/// The lines that are still to come, the one that was read last, and its number.
 #[derive(Drop)]
 pub(crate) struct Script {
-    pub(crate) text: String,
+    heap: Global,
+    lines: Lines<StdinLock<'static>>,
+    text: String,
     pub(crate) number: u64,
 }
 
-impl Script {
-    // Reads the next line: false at the script's end.
-    fn advance(&mut self, rt: &HostRuntime) -> Result<bool, Failure> {
-        self.number = self.number.saturating_add(1);
-        self.text.clear();
-        Ok(rt.read_line(&mut self.text)? != 0)
-    }
+// What a line asks for; nothing where it is blank.
+fn asked(heap: Global, text: &str) -> Result<Option<Command>, LineError> {
+    let words = script::words(heap, text)?;
+    script::parse(heap, words.as_slice())
+}
 
-    /// The next command, past blank lines and comments; nothing at the script's end.
-    pub(crate) fn next(&mut self, rt: &HostRuntime) -> Result<Option<Command>, Failure> {
-        for _ in 0..u64::MAX {
-            if !self.advance(rt)? {
-                return Ok(None);
-            }
-            let words = script::words(rt.alloc(), self.text.as_str())?;
-            if let Some(command) = script::parse(rt.alloc(), words.as_slice())? {
-                return Ok(Some(command));
-            }
+impl Script {
+    pub(crate) fn new(rt: &HostRuntime) -> Script {
+        Script {
+            heap: rt.alloc(),
+            lines: rt.lines(rt.alloc()),
+            text: String::new(rt.alloc()),
+            number: 0,
         }
-        Ok(None)
     }
 
     /// Prints the line that was read last with its answer.
@@ -44,5 +45,26 @@ impl Script {
         };
         let answer = AnswerText { parts, bytes };
         Ok(println!(rt; "{echo} -> {answer}")?)
+    }
+}
+
+/// What each line that is not blank asks for.
+impl Iterator for Script {
+    type Item = Result<Command, Failure>;
+
+    ghost remaining = { λ s. at_most (lines_left s.lines) };
+
+    fn next(&mut self) -> Option<Result<Command, Failure>> {
+        self.lines.find_map(|line| {
+            self.number = self.number.saturating_add(1);
+            match line {
+                Ok(text) => {
+                    self.text = text;
+                    let asked = asked(self.heap, self.text.as_str());
+                    asked.map_err(Failure::Line).transpose()
+                }
+                Err(error) => Some(Err(Failure::System(error))),
+            }
+        })
     }
 }

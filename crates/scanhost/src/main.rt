@@ -2,7 +2,6 @@
 // line with its answer.
 #![tactic(auto)]
 
-mod calls;
 mod failure;
 mod input;
 mod running;
@@ -37,13 +36,11 @@ Numbers are decimal, bytes hexadecimal; a # begins a comment.";
 
 // Whether only the usage was asked for.
 fn wants_usage(rt: &HostRuntime) -> Result<bool, Failure> {
-    for word in env::args(rt)?.skip(1) {
-        if word.as_str() == "--help" {
-            return Ok(true);
-        }
-        return Err(Failure::Arguments);
+    match env::args(rt)?.nth(1) {
+        None => Ok(false),
+        Some(word) if word.as_str() == "--help" => Ok(true),
+        Some(_) => Err(Failure::Arguments),
     }
-    Ok(false)
 }
 
 fn run(rt: &HostRuntime, script: &mut Script) -> Result<(), Failure> {
@@ -57,10 +54,7 @@ fn run(rt: &HostRuntime, script: &mut Script) -> Result<(), Failure> {
 }
 
 fn main(rt: HostRuntime) -> ExitCode {
-    let mut script = Script {
-        text: String::new(rt.alloc()),
-        number: 0,
-    };
+    let mut script = Script::new(&rt);
     match run(&rt, &mut script) {
         Ok(()) => ExitCode::SUCCESS,
         Err(failure) => {

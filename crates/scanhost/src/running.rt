@@ -1,5 +1,4 @@
 // The calls, made one after the other on the machine.
-use crate::calls::call_of;
 use crate::failure::Failure;
 use crate::input::Script;
 use crate::setup::{Machine, NO_ORDER};
@@ -7,18 +6,37 @@ use answer::{Answer, HostFault, parts_of};
 use device::Device;
 use disk::Disk;
 use frame::FRAME_SIZE;
-use host::Host;
+use host::{Call, Host};
 use script::Command;
 use wire::{Packet, Wire};
 
+// The call of a command; a disk and a start are none, and come too late once the host has started.
+fn call_of(command: &Command) -> Result<Call<'_>, Failure> {
+    match command {
+        Command::Call(call) => Ok(*call),
+        Command::Store {
+            caller,
+            frame,
+            offset,
+            bytes,
+        } => Ok(Call::Store {
+            caller: *caller,
+            frame: *frame,
+            offset: *offset,
+            bytes: bytes.as_slice(),
+        }),
+        Command::Disk { .. } | Command::Start { .. } => Err(Failure::Late),
+    }
+}
+
 // The front of the buffer that a load filled; no other call fills any.
 fn filled<'a>(
-    command: &Command,
+    call: &Call<'_>,
     answer: Result<Answer, HostFault>,
     buffer: &'a [u8; FRAME_SIZE],
 ) -> &'a [u8] {
-    match (command, answer) {
-        (Command::Load { .. }, Ok(Answer::Length(n))) => { &buffer[..(n as usize).min(FRAME_SIZE)] }
+    match (call, answer) {
+        (Call::Load { .. }, Ok(Answer::Length(n))) => { &buffer[..(n as usize).min(FRAME_SIZE)] }
         _ => &[],
     }
 }
@@ -36,7 +54,7 @@ fn make<B: Device, N: Device>(
     let mut buffer = [0u8; FRAME_SIZE];
     let call = call_of(command)?;
     let answer = host.call(memory, block, net, &call, &mut buffer);
-    script.answer(rt, parts_of(answer), filled(command, answer, &buffer))
+    script.answer(rt, parts_of(answer), filled(&call, answer, &buffer))
 }
 
 /// Makes the script's calls until it ends, with a disk in bay 0 and the wire in bay 1.
@@ -49,10 +67,7 @@ pub(crate) fn drive(
     let mut packets = [Packet::new(); 8];
     let mut disk = Disk::new(machine.disk.as_mut_slice(), &mut orders);
     let mut wire = Wire::new(&mut packets);
-    for _ in 0..u64::MAX {
-        let Some(command) = script.next(rt)? else {
-            break;
-        };
+    while let Some(command) = script.next() {
         make(
             rt,
             script,
@@ -60,7 +75,7 @@ pub(crate) fn drive(
             machine.memory.as_mut_slice(),
             &mut disk,
             &mut wire,
-            &command,
+            &command?,
         )?;
     }
     Ok(())

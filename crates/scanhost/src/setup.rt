@@ -45,17 +45,15 @@ fn frames(heap: Global, count: u32) -> Result<Vec<u8>, AllocError> {
 
 // Whether the bytes make a disk.
 fn check(disk: &[u8]) -> Result<Answer, HostFault> {
-    let slots = [NO_ORDER; 4];
-    match disk::check(disk, &slots) {
-        Ok(()) => Ok(Answer::Done),
-        Err(fault) => Err(HostFault::InRing(RingFault::OfDevice(fault))),
-    }
+    disk::check(disk, &[NO_ORDER; 4])
+        .map(|()| Answer::Done)
+        .map_err(|fault| HostFault::InRing(RingFault::OfDevice(fault)))
 }
 
 // Another disk in place of this one, where the check accepts it.
 fn change_disk(
     rt: &HostRuntime,
-    script: &mut Script,
+    script: &Script,
     disk: &mut Vec<u8>,
     count: u32,
 ) -> Result<(), Failure> {
@@ -71,35 +69,31 @@ fn change_disk(
 // A host and its memory, or nothing where they are refused.
 fn try_start(
     rt: &HostRuntime,
-    script: &mut Script,
+    script: &Script,
     count: u32,
 ) -> Result<Option<(Host, Vec<u8>)>, Failure> {
     let memory = frames(rt.alloc(), count)?;
-    match Host::start(count, memory.as_slice()) {
-        Ok(host) => {
-            script.answer(rt, parts_of(Ok(Answer::Done)), &[])?;
-            Ok(Some((host, memory)))
-        }
-        Err(fault) => {
-            script.answer(rt, parts_of(Err(fault)), &[])?;
-            Ok(None)
-        }
-    }
+    let started = Host::start(count, memory.as_slice());
+    let answer = started
+        .as_ref()
+        .map(|_| Answer::Done)
+        .map_err(|fault| *fault);
+    script.answer(rt, parts_of(answer), &[])?;
+    Ok(started.ok().map(|host| (host, memory)))
 }
 
 /// Reads lines until a host has started; nothing where the script ends before. A refused line may be tried again.
 pub(crate) fn start(rt: &HostRuntime, script: &mut Script) -> Result<Option<Machine>, Failure> {
     let mut disk = sectors(rt.alloc(), SECTORS)?;
-    for _ in 0..u64::MAX {
-        match script.next(rt)? {
-            None => break,
-            Some(Command::Disk { sectors: count }) => change_disk(rt, script, &mut disk, count)?,
-            Some(Command::Start { frames: count }) => {
+    while let Some(command) = script.next() {
+        match command? {
+            Command::Disk { sectors: count } => change_disk(rt, script, &mut disk, count)?,
+            Command::Start { frames: count } => {
                 if let Some((host, memory)) = try_start(rt, script, count)? {
                     return Ok(Some(Machine { host, memory, disk }));
                 }
             }
-            Some(_) => return Err(Failure::NotStarted),
+            Command::Call(_) | Command::Store { .. } => return Err(Failure::NotStarted),
         }
     }
     Ok(None)

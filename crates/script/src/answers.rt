@@ -29,13 +29,12 @@ pub struct Echo<'a> {
 
 impl<'a> fmt::Display for Echo<'a> {
     fn fmt<W: fmt::Write>(&self, f: &mut fmt::Formatter<W>) -> fmt::Result {
-        let mut first = true;
-        for word in without_comment(self.line).split_whitespace() {
-            if !first {
-                write!(f, " ")?;
-            }
-            write!(f, "{word}")?;
-            first = false;
+        let mut words = without_comment(self.line).split_whitespace();
+        if let Some(first) = words.next() {
+            write!(f, "{first}")?;
+        }
+        for word in words {
+            write!(f, " {word}")?;
         }
         Ok(())
     }

@@ -4,43 +4,30 @@ ghost use Rattle.script.specs.declared.error.LineError.TheVariants.{NoMemory};
 
 use crate::verb::Verb;
 use std::alloc::{AllocError, AllocFailed};
-use std::fmt;
+use thiserror::Error;
 
 /// What is wrong with a line, and what was expected.
-#[derive(Clone, Copy)]
+#[derive(Clone, Copy, Debug, Error)]
 pub enum LineError {
     /// The first word is the name of no call.
+    #[error("no such call: expected disk, start, take, give, load, store, entry, end, map, unmap, send, next, \
+connect, serve, complete or disconnect")]
     NoSuchCall,
     /// The call has another number of words.
+    #[error("a wrong number of words: expected {}", .0.form())]
     WrongWords(Verb),
     /// A word is no decimal number of 32 bits.
+    #[error("expected a decimal number from 0 to 4294967295")]
     NotNumber,
     /// A word is no decimal number of 16 bits.
+    #[error("expected a decimal number from 0 to 65535")]
     NotHalf,
     /// The bytes are not pairs of hexadecimal digits.
+    #[error("expected bytes of two hexadecimal digits each")]
     NotHex,
     /// No memory was left for the line.
+    #[error("no memory is left")]
     NoMemory,
-}
-
-impl fmt::Display for LineError {
-    fn fmt<W: fmt::Write>(&self, f: &mut fmt::Formatter<W>) -> fmt::Result {
-        match self {
-            LineError::NoSuchCall => write!(
-                f,
-                "no such call: expected disk, start, take, give, load, store, entry, end, map, unmap, send, next, \
-connect, serve, complete or disconnect"
-            ),
-            LineError::WrongWords(verb) => {
-                let form = verb.form();
-                write!(f, "a wrong number of words: expected {form}")
-            }
-            LineError::NotNumber => write!(f, "expected a decimal number from 0 to 4294967295"),
-            LineError::NotHalf => write!(f, "expected a decimal number from 0 to 65535"),
-            LineError::NotHex => write!(f, "expected bytes of two hexadecimal digits each"),
-            LineError::NoMemory => write!(f, "no memory is left"),
-        }
-    }
 }
 
 impl From<AllocError> for LineError {

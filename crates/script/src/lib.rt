@@ -4,7 +4,6 @@
 mod answers;
 mod command;
 mod error;
-mod hex;
 mod lines;
 mod numbers;
 mod verb;

@@ -1,42 +1,40 @@
 // The words of a line as a command.
-ghost use Rattle.std.specs.Prelude.{◌≡◌, true, [], ◌∷◌, length, ◌≢◌};
-ghost use Rattle.script.specs.Lines.{Asks, Counted, Named, Read, Unfit, verb_of, numbers_of};
+ghost use Rattle.std.specs.Prelude.{◌≡◌, ◌==◌, IfOk, true, [], ◌∷◌, length, ◌≢◌};
+ghost use Rattle.std.specs.List.{All, before_first};
+ghost use Rattle.script.specs.Lines.{Asks, Counted, IsWordOf, Named, Read, Unfit, verb_of, numbers_of, verb_of_call, numbers_of_call};
 ghost use Rattle.script.specs.Verbs.{takes};
 ghost use Rattle.script.specs.declared.verb.Verb.TheVariants.{Store};
 
 use crate::command::Command;
 use crate::error::LineError;
-use crate::hex::bytes;
-use crate::numbers::{half, number};
+use crate::numbers::{bytes, half, number};
 use crate::verb::Verb;
+use host::Call;
 use std::alloc::Global;
 
 /// A line without its comment.
-pub fn without_comment(line: &str) -> &str {
-    match line.split_once('#') {
-        Some((code, _)) => code,
-        None => line,
-    }
+pub fn without_comment(line: &str) -> &str
+    ensures { result.now ≡ before_first (λ c. c == 35) line.now }
+{
+    line.split_once('#').map_or(line, |(code, _)| code)
 }
 
 /// The words of a line, up to a comment.
-pub fn words<'a>(heap: Global, line: &'a str) -> Result<Vec<&'a str>, LineError> {
-    let mut out = Vec::new(heap);
-    for word in without_comment(line).split_whitespace() {
-        out.push(word)?;
-    }
-    Ok(out)
+pub fn words(heap: Global, line: &str) -> Result<Vec<&str>, LineError>
+    ensures { IfOk result (λ ws. All (λ w. IsWordOf (before_first (λ c. c == 35) line.now) w.now) ws.items) }
+{
+    Ok(without_comment(line).split_whitespace().collect(heap)?)
 }
 
 // The verb of that name, if so many words may follow it.
 fn verb(name: &str, count: usize) -> Result<Verb, LineError>
     ensures { Named name.now count result }
 {
-    match Verb::named(name) {
-        Some(verb) if verb.takes(count) => Ok(verb),
-        Some(verb) => Err(LineError::WrongWords(verb)),
-        None => Err(LineError::NoSuchCall),
+    let verb: Verb = name.parse()?;
+    if !verb.takes(count) {
+        return Err(LineError::WrongWords(verb));
     }
+    Ok(verb)
 }
 
 fn of_one(verb: Verb, n: u32) -> Command
@@ -46,43 +44,43 @@ fn of_one(verb: Verb, n: u32) -> Command
     match verb {
         Verb::Disk => Command::Disk { sectors: n },
         Verb::Start => Command::Start { frames: n },
-        Verb::Next => Command::Next { caller: n },
-        Verb::Serve => Command::Serve { connection: n },
-        Verb::Complete => Command::Complete { bay: n },
-        Verb::Disconnect => Command::Disconnect { connection: n },
+        Verb::Next => Command::Call(Call::Next { caller: n }),
+        Verb::Serve => Command::Call(Call::Serve { connection: n }),
+        Verb::Complete => Command::Call(Call::Complete { bay: n }),
+        Verb::Disconnect => Command::Call(Call::Disconnect { connection: n }),
         _ => unreachable(),
     }
 }
 
-fn of_two(verb: Verb, caller: u32, n: u32) -> Command
+fn of_two(verb: Verb, caller: u32, n: u32) -> Call<'static>
     requires { takes verb 2 ≡ true }
-    ensures { (verb_of result ≡ verb) × (numbers_of result ≡ caller ∷ n ∷ []) }
+    ensures { (verb_of_call result ≡ verb) × (numbers_of_call result ≡ caller ∷ n ∷ []) }
 {
     match verb {
-        Verb::Take => Command::Take { caller, frame: n },
-        Verb::Give => Command::Give { caller, frame: n },
-        Verb::End => Command::End {
+        Verb::Take => Call::Take { caller, frame: n },
+        Verb::Give => Call::Give { caller, frame: n },
+        Verb::End => Call::End {
             caller,
             reference: n,
         },
-        Verb::Unmap => Command::Unmap { caller, handle: n },
-        Verb::Send => Command::Send { caller, port: n },
+        Verb::Unmap => Call::Unmap { caller, handle: n },
+        Verb::Send => Call::Send { caller, port: n },
         _ => unreachable(),
     }
 }
 
-fn of_three(heap: Global, verb: Verb, caller: u32, m: u32, n: u32) -> Command
+fn of_three(verb: Verb, caller: u32, m: u32, n: u32) -> Call<'static>
     requires { takes verb 3 ≡ true }
-    ensures { (verb_of result ≡ verb) × (numbers_of result ≡ caller ∷ m ∷ n ∷ []) }
+    ensures { (verb_of_call result ≡ verb) × (numbers_of_call result ≡ caller ∷ m ∷ n ∷ []) }
 {
     match verb {
-        Verb::Store => Command::Store {
+        Verb::Store => Call::Store {
             caller,
             frame: m,
             offset: n,
-            bytes: Vec::new(heap),
+            bytes: &[],
         },
-        Verb::Connect => Command::Connect {
+        Verb::Connect => Call::Connect {
             caller,
             kind: m,
             reference: n,
@@ -91,18 +89,18 @@ fn of_three(heap: Global, verb: Verb, caller: u32, m: u32, n: u32) -> Command
     }
 }
 
-fn of_four(verb: Verb, caller: u32, l: u32, m: u32, n: u32) -> Command
+fn of_four(verb: Verb, caller: u32, l: u32, m: u32, n: u32) -> Call<'static>
     requires { (takes verb 4 ≡ true) × (verb ≢ Store) }
-    ensures { (verb_of result ≡ verb) × (numbers_of result ≡ caller ∷ l ∷ m ∷ n ∷ []) }
+    ensures { (verb_of_call result ≡ verb) × (numbers_of_call result ≡ caller ∷ l ∷ m ∷ n ∷ []) }
 {
     match verb {
-        Verb::Load => Command::Load {
+        Verb::Load => Call::Load {
             caller,
             frame: l,
             offset: m,
             length: n,
         },
-        Verb::Map => Command::Map {
+        Verb::Map => Call::Map {
             caller,
             owner: l,
             reference: m,
@@ -123,14 +121,14 @@ fn two(name: &str, a: &str, b: &str) -> Result<Command, LineError>
     ensures { Read name.now 2 result }
 {
     let verb = verb(name, 2)?;
-    Ok(of_two(verb, number(a)?, number(b)?))
+    Ok(Command::Call(of_two(verb, number(a)?, number(b)?)))
 }
 
-fn three(heap: Global, name: &str, a: &str, b: &str, c: &str) -> Result<Command, LineError>
+fn three(name: &str, a: &str, b: &str, c: &str) -> Result<Command, LineError>
     ensures { Read name.now 3 result }
 {
     let verb = verb(name, 3)?;
-    Ok(of_three(heap, verb, number(a)?, number(b)?, number(c)?))
+    Ok(Command::Call(of_three(verb, number(a)?, number(b)?, number(c)?)))
 }
 
 fn four(heap: Global, name: &str, a: &str, b: &str, c: &str, d: &str) -> Result<Command, LineError>
@@ -147,7 +145,7 @@ fn four(heap: Global, name: &str, a: &str, b: &str, c: &str, d: &str) -> Result<
             offset: n,
             bytes: bytes(heap, d)?,
         }),
-        _ => Ok(of_four(verb, caller, m, n, number(d)?)),
+        _ => Ok(Command::Call(of_four(verb, caller, m, n, number(d)?))),
     }
 }
 
@@ -155,13 +153,13 @@ fn five(name: &str, a: &str, b: &str, c: &str, d: &str, e: &str) -> Result<Comma
     ensures { Read name.now 5 result }
 {
     match verb(name, 5)? {
-        Verb::Entry => Ok(Command::Entry {
+        Verb::Entry => Ok(Command::Call(Call::Entry {
             caller: number(a)?,
             reference: number(b)?,
             flags: half(c)?,
             domid: half(d)?,
             frame: number(e)?,
-        }),
+        })),
         _ => unreachable(),
     }
 }
@@ -170,10 +168,8 @@ fn five(name: &str, a: &str, b: &str, c: &str, d: &str, e: &str) -> Result<Comma
 fn unfit(name: &str) -> LineError
     ensures { Unfit name.now result }
 {
-    match Verb::named(name) {
-        Some(verb) => LineError::WrongWords(verb),
-        None => LineError::NoSuchCall,
-    }
+    name.parse()
+        .map_or_else(|error| error, LineError::WrongWords)
 }
 
 // What the words of a line that has some ask for.
@@ -183,7 +179,7 @@ fn command(heap: Global, words: &[&str]) -> Result<Command, LineError>
     match words {
         [name, a] => one(name, a),
         [name, a, b] => two(name, a, b),
-        [name, a, b, c] => three(heap, name, a, b, c),
+        [name, a, b, c] => three(name, a, b, c),
         [name, a, b, c, d] => four(heap, name, a, b, c, d),
         [name, a, b, c, d, e] => five(name, a, b, c, d, e),
         [name, ..] => Err(unfit(name)),

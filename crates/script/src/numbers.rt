@@ -1,42 +1,38 @@
-// Decimal numbers. A sign is no part of one.
-ghost use Rattle.std.specs.Prelude.{◌≡◌, ◌==◌, slice_index};
+// Decimal numbers, in which a sign is no part, and bytes in hexadecimal.
+ghost use Rattle.std.specs.Prelude.{vec_items};
+ghost use Rattle.script.specs.Hex.{ReadsBytes};
 ghost use Rattle.script.specs.Numbers.{ReadsNumber};
 ghost use Rattle.script.specs.declared.error.LineError.TheVariants.{NotNumber, NotHalf};
 
 use crate::error::LineError;
-
-// Whether a plus stands first, which parse would take.
-fn has_plus(word: &str) -> bool
-    ensures { result ≡ (slice_index word.now 0 == 43) }
-{
-    match word.as_bytes() {
-        [first, ..] => *first == b'+',
-        [] => false,
-    }
-}
+use hex::FromHexError;
+use std::alloc::Global;
 
 /// A decimal number of 32 bits.
 pub fn number(word: &str) -> Result<u32, LineError>
     ensures { ReadsNumber 32 NotNumber word.now result }
 {
-    if has_plus(word) {
+    // parse would take a plus
+    if word.starts_with('+') {
         return Err(LineError::NotNumber);
     }
-    match word.parse::<u32>() {
-        Ok(n) => Ok(n),
-        Err(_) => Err(LineError::NotNumber),
-    }
+    word.parse().map_err(|_| LineError::NotNumber)
 }
 
 /// A decimal number of 16 bits.
 pub fn half(word: &str) -> Result<u16, LineError>
     ensures { ReadsNumber 16 NotHalf word.now result }
 {
-    if has_plus(word) {
-        return Err(LineError::NotHalf);
-    }
-    match word.parse::<u16>() {
-        Ok(n) => Ok(n),
-        Err(_) => Err(LineError::NotHalf),
-    }
+    let wide = number(word).map_err(|_| LineError::NotHalf)?;
+    u16::try_from(wide).map_err(|_| LineError::NotHalf)
+}
+
+/// The bytes that a word writes, two hexadecimal digits each.
+pub fn bytes(heap: Global, word: &str) -> Result<Vec<u8>, LineError>
+    ensures { ReadsBytes vec_items word.now result }
+{
+    hex::decode(heap, word).map_err(|error| match error {
+        FromHexError::OutOfMemory => LineError::NoMemory,
+        _ => LineError::NotHex,
+    })
 }

@@ -1,10 +1,14 @@
 // The first word of a line: what is asked for.
-ghost use Rattle.std.specs.Prelude.{◌≡◌, true, MatchOption, ◌≢◌};
-ghost use Rattle.script.specs.declared.verb.Verb.{Verb as Asked};
+ghost use Rattle.std.specs.Prelude.{◌≡◌};
+ghost use Rattle.std.specs.Io.{StartsWith};
 ghost use Rattle.script.specs.Verbs.{verb_name, takes};
+ghost use Rattle.script.specs.Lines.{IsVerb};
+
+use crate::error::LineError;
+use std::str::FromStr;
 
 /// The two lines that set the machine up, and the fourteen calls.
-#[derive(Clone, Copy)]
+#[derive(Clone, Copy, Debug)]
 pub enum Verb {
     Disk,
     Start,
@@ -24,32 +28,36 @@ pub enum Verb {
     Disconnect,
 }
 
-impl Verb {
-    /// The verb that has this name, if one has.
-    pub fn named(name: &str) -> Option<Verb>
-        ensures { MatchOption result ((v : Asked) → name.now ≢ verb_name v) (λ v. name.now ≡ verb_name v) }
-    {
+/// The verb that has this name.
+impl FromStr for Verb {
+    type Err = LineError;
+
+    ghost from_str_gives = { IsVerb };
+
+    fn from_str(name: &str) -> Result<Verb, LineError> {
         match name {
-            "disk" => Some(Verb::Disk),
-            "start" => Some(Verb::Start),
-            "take" => Some(Verb::Take),
-            "give" => Some(Verb::Give),
-            "load" => Some(Verb::Load),
-            "store" => Some(Verb::Store),
-            "entry" => Some(Verb::Entry),
-            "end" => Some(Verb::End),
-            "map" => Some(Verb::Map),
-            "unmap" => Some(Verb::Unmap),
-            "send" => Some(Verb::Send),
-            "next" => Some(Verb::Next),
-            "connect" => Some(Verb::Connect),
-            "serve" => Some(Verb::Serve),
-            "complete" => Some(Verb::Complete),
-            "disconnect" => Some(Verb::Disconnect),
-            _ => None,
+            "disk" => Ok(Verb::Disk),
+            "start" => Ok(Verb::Start),
+            "take" => Ok(Verb::Take),
+            "give" => Ok(Verb::Give),
+            "load" => Ok(Verb::Load),
+            "store" => Ok(Verb::Store),
+            "entry" => Ok(Verb::Entry),
+            "end" => Ok(Verb::End),
+            "map" => Ok(Verb::Map),
+            "unmap" => Ok(Verb::Unmap),
+            "send" => Ok(Verb::Send),
+            "next" => Ok(Verb::Next),
+            "connect" => Ok(Verb::Connect),
+            "serve" => Ok(Verb::Serve),
+            "complete" => Ok(Verb::Complete),
+            "disconnect" => Ok(Verb::Disconnect),
+            _ => Err(LineError::NoSuchCall),
         }
     }
+}
 
+impl Verb {
     /// Whether a line with the verb may have so many words after it.
     pub fn takes(self, count: usize) -> bool
         ensures { result ≡ takes self count }
@@ -66,7 +74,9 @@ impl Verb {
     }
 
     /// The whole line in words, as the usage has it.
-    pub fn form(self) -> &'static str {
+    pub fn form(self) -> &'static str
+        ensures { StartsWith result.now (verb_name self) }
+    {
         match self {
             Verb::Disk => "disk SECTORS",
             Verb::Start => "start FRAMES",
