@@ -1,5 +1,6 @@
 -- Tables of places that are free or taken.
-use Rattle.std.specs.Prelude.{ℕ, ◌+◌, Bool, false, cond, ◌||◌, List, [], ◌∷◌, is_some, Some, None, Option, slice_index_or}
+use Rattle.std.specs.Prelude.{ℕ, ◌+◌, Bool, cond, List, [], ◌∷◌, is_some, Some, None, Option, slice_index_or}
+use Rattle.std.specs.List.{list_any}
 
 -- the place k of a table; beyond its end every place is free
 abbrev pub at : {X : Type 0} → List (Option X) → ℕ → Option X
@@ -12,5 +13,4 @@ first_free k (x ∷ xs) = cond (is_some x) (first_free (k + 1) xs) (Some k)
 
 -- some element passes the test p
 abbrev pub some_of : {X : Type 0} → (X → Bool) → List X → Bool
-some_of p [] = false
-some_of p (x ∷ xs) = p x || some_of p xs
+some_of p xs = list_any p xs
