@@ -1,14 +1,14 @@
 // The four parts of an answer.
 ghost use Rattle.std.specs.Prelude.{◌≡◌, pos};
-ghost use Rattle.answer.specs.Parts.{fault_number, fault_layer, ring_layer, answer_parts, plain};
+ghost use Rattle.answer.specs.Parts.{fault_number, fault_layer, of_ring, answer_parts, plain};
 
 use crate::fault::HostFault;
 use crate::reply::Answer;
 use abi::GrantStatus;
-use ring::{Layer as RingLayer, RingFault};
+use ring::Layer as RingLayer;
 
 /// The layer in which a fault was met.
-#[derive(Clone, Copy)]
+#[derive(Clone, Copy, Debug, PartialEq, Eq)]
 pub enum Layer {
     NoLayer,
     OfHost,
@@ -21,7 +21,7 @@ pub enum Layer {
 
 /// The four parts of an answer: the answer itself, and where something was refused the layer, the number and the
 /// segment.
-#[derive(Clone, Copy)]
+#[derive(Clone, Copy, Debug, PartialEq, Eq)]
 pub struct AnswerParts {
     pub answer: i64,
     pub layer: Layer,
@@ -29,14 +29,15 @@ pub struct AnswerParts {
     pub place: u8,
 }
 
-// The layer of a fault that the layer of rings met or passes up.
-fn ring_layer(fault: RingFault) -> Layer
-    ensures { result ≡ ring_layer fault }
-{
-    match fault.layer() {
-        RingLayer::InGrant => Layer::OfGrant,
-        RingLayer::InDevice => Layer::OfDevice,
-        RingLayer::InRing => Layer::OfRing,
+impl From<RingLayer> for Layer {
+    ghost from_gives = { λ layer r. r ≡ of_ring layer };
+
+    fn from(layer: RingLayer) -> Layer {
+        match layer {
+            RingLayer::InGrant => Layer::OfGrant,
+            RingLayer::InDevice => Layer::OfDevice,
+            RingLayer::InRing => Layer::OfRing,
+        }
     }
 }
 
@@ -60,12 +61,11 @@ impl HostFault {
         ensures { result ≡ fault_layer self }
     {
         match self {
-            HostFault::BadMemory => Layer::OfHost,
-            HostFault::BadCaller => Layer::OfHost,
+            HostFault::BadMemory | HostFault::BadCaller => Layer::OfHost,
             HostFault::InFrame(_) => Layer::OfFrame,
             HostFault::InGrant(_) => Layer::OfGrant,
             HostFault::InEvent(_) => Layer::OfEvent,
-            HostFault::InRing(fault) => ring_layer(fault),
+            HostFault::InRing(fault) => Layer::from(fault.layer()),
         }
     }
 }
@@ -86,20 +86,16 @@ pub fn parts_of(res: Result<Answer, HostFault>) -> AnswerParts
     ensures { result ≡ answer_parts res }
 {
     match res {
-        Ok(Answer::Done) => plain(0),
+        Ok(Answer::Done | Answer::Idle) => plain(0),
+        Ok(Answer::HandedOver | Answer::Completed) => plain(1),
         Ok(Answer::Length(n)) => plain(n),
-        Ok(Answer::Handle(h)) => plain(u32::from(h)),
-        Ok(Answer::Port(p)) => plain(u32::from(p)),
-        Ok(Answer::Connected(c)) => plain(u32::from(c)),
-        Ok(Answer::Idle) => plain(0),
-        Ok(Answer::HandedOver) => plain(1),
+        Ok(Answer::Handle(n) | Answer::Port(n) | Answer::Connected(n)) => plain(u32::from(n)),
         Ok(Answer::AnsweredNow(miss)) => AnswerParts {
             answer: 2,
-            layer: ring_layer(miss.fault),
+            layer: Layer::from(miss.fault.layer()),
             detail: i64::from(miss.fault.number()),
             place: miss.place,
         },
-        Ok(Answer::Completed) => plain(1),
         Err(fault) => AnswerParts {
             answer: i64::from(fault.number()),
             layer: fault.layer(),

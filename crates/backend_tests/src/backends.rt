@@ -64,7 +64,7 @@ fn number(r: Result<(), Miss>) -> (i32, u8) {
 // unmapped again. With both granted they get the handles 0 and 1, and the second part begins at 4,096 * 3 + 1,024.
 #[test]
 fn segments(rt: HostRuntime) -> Result<(), Fail> {
-    let Some(one) = Domain::new(1) else {
+    let Ok(one) = Domain::try_from(1) else {
         return Err(Fail::new("1 is a domain"));
     };
     let mut frames = Frames::new(4);
@@ -99,10 +99,10 @@ fn segments(rt: HostRuntime) -> Result<(), Fail> {
 // response 5: the first response, in slot 4 at 64 + 4 * 8 = 96 of the page, marks its port 3, the second does not.
 #[test]
 fn responses(rt: HostRuntime) -> Result<(), Fail> {
-    let Some(three) = Domain::new(3) else {
+    let Ok(three) = Domain::try_from(3) else {
         return Err(Fail::new("3 is a domain"));
     };
-    let Some(port) = Port::new(3) else {
+    let Ok(port) = Port::try_from(3) else {
         return Err(Fail::new("3 is a port"));
     };
     let connection = Connection {

@@ -5,13 +5,13 @@ ghost use Rattle.event.specs.Fault.{fault_number};
 use abi::Errno;
 
 /// The faults of the layer of events.
-#[derive(Clone, Copy)]
+#[derive(Clone, Copy, Debug, PartialEq, Eq)]
 pub enum EventFault {
     BadPort,
 }
 
 impl EventFault {
-    /// The number of the fault.
+    /// The number of the fault; faults of other layers share it.
     pub fn number(self) -> i32
         ensures { result ≡ fault_number self }
     {

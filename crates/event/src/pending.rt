@@ -41,9 +41,6 @@ impl Events {
         ensures pending { Picked (word self.now domain.id) result }
     {
         let word = self.pending[domain.id as usize];
-        if word == 0 {
-            return None;
-        }
-        Some(word.trailing_zeros())
+        (word != 0).then_some(word.trailing_zeros())
     }
 }

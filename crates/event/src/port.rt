@@ -1,24 +1,28 @@
 // A port of a domain.
-ghost use Rattle.std.specs.Prelude.{◌≡◌, ◌<◌, ◌≤◌, MatchOption};
+ghost use Rattle.std.specs.Prelude.{◌≡◌, ◌<◌, ◌≤◌, MatchResult};
+ghost use Rattle.event.specs.declared.fault.EventFault.{EventFault};
+
+use crate::fault::EventFault;
 
 /// One of the 32 ports that a word has bits for.
-#[derive(Clone, Copy)]
+#[derive(Clone, Copy, Debug, PartialEq, Eq)]
 pub struct Port {
     pub number: u8,
     ghost below: { number < 32 },
 }
 
-impl Port {
-    /// The port with this number, if a word has a bit for it.
-    pub fn new(number: u32) -> Option<Port>
-        ensures { MatchOption result (32 ≤ number) (λ p. p.number ≡ number) }
-    {
+impl TryFrom<u32> for Port {
+    type Error = EventFault;
+
+    ghost try_from_gives = { λ number r. MatchResult r (λ p. p.number ≡ number) (λ fault. (32 ≤ number) × (fault ≡ EventFault.BadPort)) };
+
+    fn try_from(number: u32) -> Result<Port, EventFault> {
         if number < 32 {
-            Some(Port {
+            Ok(Port {
                 number: number as u8,
             })
         } else {
-            None
+            Err(EventFault::BadPort)
         }
     }
 }

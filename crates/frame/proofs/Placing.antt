@@ -1,11 +1,11 @@
 -- Bytes that are placed in a memory, and what lies elsewhere.
-use Rattle.std.proofs.Common.{◌≡◌, ℕ, ◌+◌, ◌-◌, ◌*◌, ◌≤◌, ◌⊎◌, List, ◌++◌, length, take, drop, Ok, sym, refl, ap, ◌∙◌, inl, inr, arith}
+use Rattle.std.proofs.Common.{◌≡◌, ℕ, ◌+◌, ◌-◌, ◌*◌, ◌≤◌, ◌⊎◌, List, ◌++◌, length, take, drop, Ok, sym, refl, ap, ◌∙◌, subst, inl, inr, arith}
 use borrow.Rule.Slice.PartMut.{put_mid}
 use Rattle.std.proofs.lemmas.List.{drop-drop}
 use Rattle.std.proofs.lemmas.Slice.{between_is, take-put_mid_below, drop-put_mid}
 use Rattle.std.proofs.lemmas.Bool.{cases_order, ltb-false}
 use Rattle.rules.proofs.Refusals.{none-held}
-use Rattle.frame.specs.Memory.{bytes_at, placed, OthersKept, part_rules, part_verdict}
+use Rattle.frame.specs.Memory.{bytes_at, placed, OthersKept, part_rules, part_verdict, Written}
 
 -- a part of a slice that was overwritten, as a memory with bytes placed in it
 pub put_is_placed : (a k : ℕ) (m ys bs : List ℕ) → ys ≡ bs → length bs ≡ k → put_mid a k m ys ≡ placed a bs m
@@ -44,3 +44,11 @@ pub part_granted : (size f offset n : ℕ) → part_verdict size f offset n ≡ 
 part_granted size f offset n e =
     let g = none-held (part_rules size f offset n) (Ok tt) tt e in
     (ltb-false size (4096 * f + 4096) g.0.0, ltb-false 4096 (offset + n) g.0.1.0)
+
+-- bytes placed where a part lies are a write of that part
+pub written : (m bs after : List ℕ) (f offset start : ℕ) → Ok tt ≡ part_verdict (length m) f offset (length bs) → start ≡ 4096 * f + offset → after ≡ placed start bs m
+    → Written m f offset bs (Ok tt) after
+written m bs after f offset start answer at e =
+    let g = part_granted (length m) f offset (length bs) (sym answer) in
+    let w : after ≡ placed (4096 * f + offset) bs m = e ∙ ap (λ k. placed k bs m) at in
+    record { answer = answer; after = w; others = subst (OthersKept f m) (sym w) (placed_in_frame f offset bs m g.1 g.0) }

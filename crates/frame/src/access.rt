@@ -1,11 +1,11 @@
 // Whether a domain may reach a part of a frame.
-ghost use Rattle.std.specs.Prelude.{◌≡◌, Ok};
+ghost use Rattle.std.specs.Prelude.{◌≡◌};
 ghost use Rattle.rules.specs.Refusal.{refuse_first};
 ghost use Rattle.frame.specs.Access.{access_rules};
 
 use crate::domain::Domain;
 use crate::fault::FrameFault;
-use crate::memory::FRAME_SIZE;
+use crate::memory::fits;
 use crate::owners::Frames;
 
 impl Frames {
@@ -23,7 +23,7 @@ impl Frames {
         if frame >= self.count {
             return Err(FrameFault::NoFrame);
         }
-        if size > FRAME_SIZE || offset as usize > FRAME_SIZE - size {
+        if !fits(offset, size) {
             return Err(FrameFault::OutOfFrame);
         }
         if !(self.owned_by(domain, frame) || held) {

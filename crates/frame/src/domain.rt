@@ -1,25 +1,30 @@
 // The domains of a host.
-ghost use Rattle.std.specs.Prelude.{◌≡◌, ◌<◌, ◌≤◌, MatchOption};
+ghost use Rattle.std.specs.Prelude.{◌≡◌, ◌<◌, ◌≤◌, MatchResult};
 
 /// How many domains a host has.
 pub const DOMAINS: u32 = 8;
 
 /// A domain of the host: 0 holds the back ends, 1 to 7 are guests.
-#[derive(Clone, Copy)]
+#[derive(Clone, Copy, Debug, PartialEq, Eq)]
 pub struct Domain {
     pub id: u8,
     ghost below: { id < 8 },
 }
 
-impl Domain {
-    /// The domain with this number, if there is one.
-    pub fn new(number: u32) -> Option<Domain>
-        ensures { MatchOption result (8 ≤ number) (λ d. d.id ≡ number) }
-    {
+/// No domain has the number.
+#[derive(Clone, Copy, Debug, PartialEq, Eq)]
+pub struct NoDomain;
+
+impl TryFrom<u32> for Domain {
+    type Error = NoDomain;
+
+    ghost try_from_gives = { λ number r. MatchResult r (λ d. d.id ≡ number) (λ _. 8 ≤ number) };
+
+    fn try_from(number: u32) -> Result<Domain, NoDomain> {
         if number < DOMAINS {
-            Some(Domain { id: number as u8 })
+            Ok(Domain { id: number as u8 })
         } else {
-            None
+            Err(NoDomain)
         }
     }
 }

@@ -5,7 +5,7 @@ ghost use Rattle.frame.specs.Fault.{fault_number};
 use abi::{GrantStatus, HouseStatus};
 
 /// The faults of the layer of frames.
-#[derive(Clone, Copy)]
+#[derive(Clone, Copy, Debug, PartialEq, Eq)]
 pub enum FrameFault {
     NoFrame,
     Owned,
@@ -16,7 +16,7 @@ pub enum FrameFault {
 }
 
 impl FrameFault {
-    /// The number of the fault.
+    /// The number of the fault; several faults share one.
     pub fn number(self) -> i32
         ensures { result ≡ fault_number self }
     {

@@ -7,7 +7,7 @@ mod fault;
 mod memory;
 mod owners;
 
-pub use domain::{DOMAINS, Domain};
+pub use domain::{DOMAINS, Domain, NoDomain};
 pub use fault::FrameFault;
 pub use memory::{FRAME_SIZE, read_part, write_part, zero_frame};
 pub use owners::{FRAMES, Frames};

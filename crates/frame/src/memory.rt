@@ -1,24 +1,36 @@
 // The bytes of frames, in a memory that is lent to each function.
-ghost use Rattle.std.specs.Prelude.{◌≡◌, ◌+◌, ◌*◌, ◌≤◌, length, replicate, OnOk};
+ghost use Rattle.std.specs.Prelude.{◌≡◌, ◌+◌, ◌*◌, ◌≤◌, not, nat_lt, length, replicate, IfOk};
+ghost use Rattle.rules.specs.Refusal.{granting};
 ghost use Rattle.frame.specs.Memory.{part_verdict, Written, ReadPart};
 
 use crate::fault::FrameFault;
+use std::ops::Range;
 
 /// The bytes of a frame.
 pub const FRAME_SIZE: usize = 4096;
 
-// Whether the memory has this part of a frame.
-fn has_part(memory: &[u8], frame: u32, offset: u32, size: usize) -> Result<(), FrameFault>
-    ensures answer { result ≡ part_verdict (length memory.now) frame offset size }
-    ensures inside { OnOk result (4096 * frame + offset + size ≤ length memory.now) }
+// Whether a part lies inside its frame.
+pub(crate) fn fits(offset: u32, size: usize) -> bool
+    ensures { result ≡ not (nat_lt 4096 (offset + size)) }
+{
+    size <= FRAME_SIZE && offset as usize <= FRAME_SIZE - size
+}
+
+// Where the memory has a part of a frame.
+fn range_of(memory: &[u8], frame: u32, offset: u32, size: usize) -> Result<Range<usize>, FrameFault>
+    ensures answer { granting (λ _. tt) result ≡ part_verdict (length memory.now) frame offset size }
+    ensures start { IfOk result (λ r. r.start ≡ 4096 * frame + offset) }
+    ensures end { IfOk result (λ r. r.end ≡ 4096 * frame + offset + size) }
+    ensures inside { IfOk result (λ r. r.end ≤ length memory.now) }
 {
     if memory.len() < FRAME_SIZE * (frame as usize) + FRAME_SIZE {
         return Err(FrameFault::NoFrame);
     }
-    if size > FRAME_SIZE || offset as usize > FRAME_SIZE - size {
+    if !fits(offset, size) {
         return Err(FrameFault::OutOfFrame);
     }
-    Ok(())
+    let start = FRAME_SIZE * (frame as usize) + offset as usize;
+    Ok(start..start + size)
 }
 
 /// Copies a part of a frame into a buffer.
@@ -30,10 +42,8 @@ pub fn read_part(
 ) -> Result<(), FrameFault>
     ensures { ReadPart memory.now frame offset buffer.old result buffer.new }
 {
-    has_part(memory, frame, offset, buffer.len())?;
-    let start = FRAME_SIZE * (frame as usize) + offset as usize;
-    let end = start + buffer.len();
-    buffer.copy_from_slice(&memory[start..end]);
+    let range = range_of(memory, frame, offset, buffer.len())?;
+    buffer.copy_from_slice(&memory[range]);
     Ok(())
 }
 
@@ -46,10 +56,8 @@ pub fn write_part(
 ) -> Result<(), FrameFault>
     ensures { Written memory.old frame offset bytes.now result memory.new }
 {
-    has_part(memory, frame, offset, bytes.len())?;
-    let start = FRAME_SIZE * (frame as usize) + offset as usize;
-    let end = start + bytes.len();
-    memory[start..end].copy_from_slice(bytes);
+    let range = range_of(memory, frame, offset, bytes.len())?;
+    memory[range].copy_from_slice(bytes);
     Ok(())
 }
 
@@ -57,8 +65,7 @@ pub fn write_part(
 pub fn zero_frame(memory: &mut [u8], frame: u32) -> Result<(), FrameFault>
     ensures { Written memory.old frame 0 (replicate 4096 0) result memory.new }
 {
-    has_part(memory, frame, 0, FRAME_SIZE)?;
-    let start = FRAME_SIZE * (frame as usize);
-    memory[start..start + FRAME_SIZE].fill(0);
+    let range = range_of(memory, frame, 0, FRAME_SIZE)?;
+    memory[range].fill(0);
     Ok(())
 }

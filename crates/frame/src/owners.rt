@@ -1,10 +1,11 @@
 // Who owns which frame.
-ghost use Rattle.std.specs.Prelude.{◌≡◌, Some as Just, None as Nothing, Ok};
+ghost use Rattle.std.specs.Prelude.{◌≡◌};
 ghost use Rattle.rules.specs.Refusal.{refuse_first};
 ghost use Rattle.frame.specs.Owners.{new_frames, owner_of, owns, take_rules, give_rules, with_owner};
 
 use crate::domain::Domain;
 use crate::fault::FrameFault;
+use rules::{at, put};
 
 /// How many frames a host has at most.
 pub const FRAMES: usize = 256;
@@ -31,11 +32,7 @@ impl Frames {
     pub fn owner(&self, frame: u32) -> Option<u8>
         ensures { result ≡ owner_of self.now frame }
     {
-        let owners: &[Option<u8>] = &self.owners;
-        match owners.get(frame as usize) {
-            Some(owner) => *owner,
-            None => None,
-        }
+        at(&self.owners, frame as usize)
     }
 
     /// Whether the frame exists and the domain owns it.
@@ -73,21 +70,15 @@ impl Frames {
 
     /// The domain becomes the owner of the frame.
     pub fn settle(&mut self, domain: Domain, frame: u32)
-        ensures { self.new ≡ with_owner frame (Just domain.id) self.old }
+        ensures { self.new ≡ with_owner frame (Some domain.id) self.old }
     {
-        let owners: &mut [Option<u8>] = &mut self.owners;
-        if (frame as usize) < owners.len() {
-            owners[frame as usize] = Some(domain.id);
-        }
+        put(&mut self.owners, frame as usize, Some(domain.id));
     }
 
     /// Nobody owns the frame any more.
     pub fn release(&mut self, frame: u32)
-        ensures { self.new ≡ with_owner frame Nothing self.old }
+        ensures { self.new ≡ with_owner frame None self.old }
     {
-        let owners: &mut [Option<u8>] = &mut self.owners;
-        if (frame as usize) < owners.len() {
-            owners[frame as usize] = None;
-        }
+        put(&mut self.owners, frame as usize, None);
     }
 }

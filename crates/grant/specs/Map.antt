@@ -24,6 +24,17 @@ names e d = permits e.flags && e.domid == d
 abbrev pub mode_of : ℕ → Mode
 mode_of n = cond (n == 1) Write Read
 
+-- when a number is no mode, and when it is no other domain than d
+abbrev pub mode_rules : ℕ → List (Rule GrantFault)
+mode_rules mode = (nat_lt 1 mode, BadMode) ∷ []
+
+abbrev pub owner_rules : ℕ → ℕ → List (Rule GrantFault)
+owner_rules d owner = (nat_lt 7 owner || (owner == d), BadOwner) ∷ []
+
+-- when an entry grants the domain d nothing of its owner's
+abbrev pub entry_says : Frames → ℕ → ℕ → GrantEntry → List (Rule GrantFault)
+entry_says F d owner e = (not (names e d), NotGranted) ∷ (not (owns F owner e.frame), NotOwners) ∷ []
+
 -- in this order: when the domain d's map is refused, and why
 abbrev pub map_rules : Frames → Grants → ℕ → ℕ → ℕ → ℕ → List (Rule GrantFault)
 map_rules F G d owner reference mode =

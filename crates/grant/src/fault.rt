@@ -5,7 +5,7 @@ ghost use Rattle.grant.specs.Fault.{fault_number};
 use abi::{Errno, GrantStatus, HouseStatus};
 
 /// The faults of the layer of grants.
-#[derive(Clone, Copy)]
+#[derive(Clone, Copy, Debug, PartialEq, Eq)]
 pub enum GrantFault {
     NoReference,
     InUse,
@@ -20,7 +20,7 @@ pub enum GrantFault {
 }
 
 impl GrantFault {
-    /// The number of the fault.
+    /// The number of the fault; several faults share one.
     pub fn number(self) -> i32
         ensures { result ≡ fault_number self }
     {

@@ -5,6 +5,7 @@ mod entries;
 mod fault;
 mod mapping;
 mod maps;
+mod mode;
 mod pinning;
 mod reference;
 mod tables;

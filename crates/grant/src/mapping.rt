@@ -4,7 +4,7 @@ ghost use Rattle.std.specs.Prelude.{◌<◌};
 use crate::tables::Mapping;
 
 /// A mapping that may begin, and the handle that it gets.
-#[derive(Clone, Copy)]
+#[derive(Clone, Copy, Debug, PartialEq, Eq)]
 pub struct Granted {
     pub handle: u8,
     pub mapping: Mapping,

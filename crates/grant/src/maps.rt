@@ -1,13 +1,15 @@
 // Whether a domain may map or unmap, and what it has mapped.
-ghost use Rattle.std.specs.Prelude.{◌≡◌, ◌<◌, ◌≤◌, length, IfSome};
-ghost use Rattle.rules.specs.Refusal.{granting};
-ghost use Rattle.rules.specs.Tables.{some_of};
-ghost use Rattle.grant.specs.Tables.{lowest, in_use, pinned, pins, writes, of_frame, maps_frame, writes_frame};
-ghost use Rattle.grant.specs.Map.{map_verdict, grant_of, unmap_verdict};
+ghost use Rattle.std.specs.Prelude.{◌≡◌, ◌<◌, ◌≤◌, ◌^◌, length, IfSome};
+ghost use Rattle.rules.specs.Refusal.{refuse_first, granting};
+ghost use Rattle.std.specs.List.{list_any};
+ghost use Rattle.grant.specs.Tables.{place, entry_at, handles_of, lowest, in_use, pinned, weight, pins, of_frame, maps_frame, writes_frame};
+ghost use Rattle.grant.specs.Map.{owner_rules, entry_says, map_verdict, grant_of, unmap_verdict};
 
 use crate::fault::GrantFault;
 use crate::mapping::Granted;
-use crate::tables::{Grants, Mapping, Mode, Record};
+use crate::reference::Reference;
+use crate::tables::{Grants, Mapping, Mode, Record, key, place};
+use abi::GrantEntry;
 use frame::{Domain, Frames};
 use rules::first_free;
 
@@ -18,14 +20,17 @@ impl Record {
     {
         self.readers != 0 || self.writers != 0
     }
-}
 
-fn maps(handle: &Option<Mapping>, writing: bool, frame: u32) -> bool
-    ensures { result ≡ of_frame writing frame handle.now }
-{
-    match handle {
-        Some(mapping) => mapping.frame == frame && (!writing || mapping.mode.writes()),
-        None => false,
+    // How often the record pins the frame.
+    fn weight(&self, frame: u32) -> u64
+        ensures value { result ≡ weight frame self.now }
+        ensures small { result < 2 ^ 33 }
+    {
+        if self.frame == frame {
+            u64::from(self.readers) + u64::from(self.writers)
+        } else {
+            0
+        }
     }
 }
 
@@ -33,37 +38,24 @@ fn pins_of(records: &[Record], frame: u32) -> u64
     requires { length records.now ≤ 256 }
     ensures { result ≡ pins records.now frame }
 {
-    let mut sum: u64 = 0;
-    for record in records {
-        if record.frame == frame {
-            sum += u64::from(record.readers) + u64::from(record.writers);
-        }
-    }
-    sum
+    records.iter().map(|record| record.weight(frame)).sum()
 }
 
-impl Mode {
-    /// Whether the mode is for writing.
-    pub fn writes(self) -> bool
-        ensures { result ≡ writes self }
-    {
-        match self {
-            Mode::Read => false,
-            Mode::Write => true,
-        }
-    }
-}
-
-// Whether one of the handles maps the frame, and for writing if that is asked.
-fn any_of_frame(handles: &[Option<Mapping>], writing: bool, frame: u32) -> bool
-    ensures { result ≡ some_of (of_frame writing frame) handles.now }
+// Whether the handle maps the frame, and for writing if that is asked.
+fn of_frame(handle: &Option<Mapping>, writing: bool, frame: u32) -> bool
+    ensures { result ≡ of_frame writing frame handle.now }
 {
-    for handle in handles {
-        if maps(handle, writing, frame) {
-            return true;
-        }
+    handle.is_some_and(|mapping| mapping.frame == frame && (!writing || mapping.mode.writes()))
+}
+
+// The owner that a map of the domain names: a domain, and another.
+fn other_domain(domain: Domain, number: u32) -> Result<Domain, GrantFault>
+    ensures { granting (λ d. d.id) result ≡ refuse_first (owner_rules domain.id number) (Ok number) }
+{
+    match Domain::try_from(number) {
+        Ok(owner) if owner.id != domain.id => Ok(owner),
+        _ => Err(GrantFault::BadOwner),
     }
-    false
 }
 
 impl Grants {
@@ -74,20 +66,27 @@ impl Grants {
         pins_of(&self.records, frame)
     }
 
+    // Whether a handle of the domain maps the frame, and for writing if that is asked.
+    fn any_of_frame(&self, domain: Domain, writing: bool, frame: u32) -> bool
+        ensures { result ≡ list_any (of_frame writing frame) (handles_of domain.id self.now.handles) }
+    {
+        self.handles_of(domain)
+            .iter()
+            .any(|handle| of_frame(handle, writing, frame))
+    }
+
     /// Whether the domain has the frame mapped.
     pub fn maps_frame(&self, domain: Domain, frame: u32) -> bool
         ensures { result ≡ maps_frame self.now domain.id frame }
     {
-        let start = 64 * domain.id as usize;
-        any_of_frame(&self.handles[start..start + 64], false, frame)
+        self.any_of_frame(domain, false, frame)
     }
 
     /// Whether the domain has the frame mapped for writing.
     pub fn writes_frame(&self, domain: Domain, frame: u32) -> bool
         ensures { result ≡ writes_frame self.now domain.id frame }
     {
-        let start = 64 * domain.id as usize;
-        any_of_frame(&self.handles[start..start + 64], true, frame)
+        self.any_of_frame(domain, true, frame)
     }
 
     // The lowest free handle of the domain.
@@ -95,8 +94,27 @@ impl Grants {
         ensures value { result ≡ lowest self.now.handles domain.id }
         ensures within { IfSome result (λ k. k < 64) }
     {
-        let start = 64 * domain.id as usize;
-        first_free(&self.handles[start..start + 64])
+        first_free(self.handles_of(domain))
+    }
+
+    // What the owner's entry grants the domain: read once.
+    fn granted_entry(
+        &self,
+        frames: &Frames,
+        domain: Domain,
+        owner: Domain,
+        reference: Reference,
+    ) -> Result<GrantEntry, GrantFault>
+        ensures { result ≡ refuse_first (entry_says frames.now domain.id owner.id (entry_at self.now (place owner.id reference.number))) (Ok (entry_at self.now (place owner.id reference.number))) }
+    {
+        let entry = self.entry(owner, reference);
+        if !entry.permits_access() || entry.domid != u16::from(domain.id) {
+            return Err(GrantFault::NotGranted);
+        }
+        if !frames.owned_by(owner, entry.frame) {
+            return Err(GrantFault::NotOwners);
+        }
+        Ok(entry)
     }
 
     /// Whether the domain may map what the owner's entry grants; the entry is read once.
@@ -110,43 +128,26 @@ impl Grants {
     ) -> Result<Granted, GrantFault>
         ensures { granting grant_of result ≡ map_verdict frames.now self.now domain.id owner reference mode }
     {
-        if mode > 1 {
-            return Err(GrantFault::BadMode);
-        }
-        if owner > 7 || owner == u32::from(domain.id) {
-            return Err(GrantFault::BadOwner);
-        }
-        let Some(handle) = self.lowest_free(domain) else {
-            return Err(GrantFault::NoHandle);
-        };
-        if reference > 31 {
-            return Err(GrantFault::NoReference);
-        }
-        let i = 32 * owner as usize + reference as usize;
-        let entry = self.entries[i];
-        if !entry.permits_access() || u32::from(entry.domid) != u32::from(domain.id) {
-            return Err(GrantFault::NotGranted);
-        }
-        if !frames.owned_by(Domain { id: owner as u8 }, entry.frame) {
-            return Err(GrantFault::NotOwners);
-        }
-        if mode == 1 && entry.is_read_only() {
+        let mode = Mode::try_from(mode)?;
+        let owner = other_domain(domain, owner)?;
+        let handle = self.lowest_free(domain).ok_or(GrantFault::NoHandle)?;
+        let reference = Reference::try_from(reference)?;
+        let entry = self.granted_entry(frames, domain, owner, reference)?;
+        if mode.writes() && entry.is_read_only() {
             return Err(GrantFault::ReadOnly);
         }
-        let record = self.records[i];
+        let record = self.records[place(owner.id, reference.number)];
         if record.is_pinned() && (record.mapper != domain.id || record.frame != entry.frame) {
             return Err(GrantFault::PinnedOtherwise);
         }
-        let mode = if mode == 1 { Mode::Write } else { Mode::Read };
-        let mapping = Mapping {
-            owner: owner as u8,
-            reference: reference as u8,
-            frame: entry.frame,
-            mode,
-        };
         Ok(Granted {
             handle: handle as u8,
-            mapping,
+            mapping: Mapping {
+                owner: owner.id,
+                reference: reference.number,
+                frame: entry.frame,
+                mode,
+            },
         })
     }
 
@@ -157,16 +158,13 @@ impl Grants {
         if handle > 63 {
             return None;
         }
-        self.handles[64 * domain.id as usize + handle as usize]
+        self.handles[key(domain, handle)]
     }
 
     /// The mapping that an unmap of the domain would end.
     pub fn may_unmap(&self, domain: Domain, handle: u32) -> Result<Mapping, GrantFault>
         ensures { result ≡ unmap_verdict self.now domain.id handle }
     {
-        match self.in_use(domain, handle) {
-            Some(mapping) => Ok(mapping),
-            None => Err(GrantFault::NoMapping),
-        }
+        self.in_use(domain, handle).ok_or(GrantFault::NoMapping)
     }
 }

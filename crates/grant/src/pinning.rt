@@ -3,7 +3,7 @@ ghost use Rattle.std.specs.Prelude.{◌≡◌, ◌<◌};
 ghost use Rattle.grant.specs.Pin.{pin, unused, released};
 
 use crate::mapping::Granted;
-use crate::tables::{Grants, Mode};
+use crate::tables::{Grants, Mode, key, place};
 use abi::{GTF_READING, GTF_WRITING};
 use frame::Domain;
 
@@ -13,7 +13,7 @@ impl Grants {
         ensures { self.new ≡ pin domain.id granted.handle granted.mapping self.old }
     {
         let mapping = granted.mapping;
-        let i = 32 * mapping.owner as usize + mapping.reference as usize;
+        let i = place(mapping.owner, mapping.reference);
         let record = &mut self.records[i];
         record.frame = mapping.frame;
         record.mapper = domain.id;
@@ -23,10 +23,10 @@ impl Grants {
         }
         let entry = &mut self.entries[i];
         entry.flags |= GTF_READING;
-        if let Mode::Write = mapping.mode {
+        if mapping.mode.writes() {
             entry.flags |= GTF_WRITING;
         }
-        self.handles[64 * domain.id as usize + granted.handle as usize] = Some(mapping);
+        self.handles[key(domain, u32::from(granted.handle))] = Some(mapping);
     }
 
     // One use less of the entry at `i`.
@@ -56,10 +56,10 @@ impl Grants {
         let Some(mapping) = self.in_use(domain, handle) else {
             return;
         };
-        let i = 32 * mapping.owner as usize + mapping.reference as usize;
+        let i = place(mapping.owner, mapping.reference);
         if i < 256 {
             self.leave(i, mapping.mode);
         }
-        self.handles[64 * domain.id as usize + handle as usize] = None;
+        self.handles[key(domain, handle)] = None;
     }
 }

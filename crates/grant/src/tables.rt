@@ -1,8 +1,12 @@
 // The three tables, plain: what they promise is said of them, not by them.
+ghost use Rattle.std.specs.Prelude.{◌≡◌};
+ghost use Rattle.grant.specs.Tables.{place, key, handles_of};
+
 use abi::GrantEntry;
+use frame::Domain;
 
 /// What the host keeps beside each entry; no guest writes it.
-#[derive(Clone, Copy)]
+#[derive(Clone, Copy, Debug, PartialEq, Eq)]
 pub struct Record {
     pub readers: u32,
     pub writers: u32,
@@ -11,14 +15,14 @@ pub struct Record {
 }
 
 /// How a frame is mapped.
-#[derive(Clone, Copy)]
+#[derive(Clone, Copy, Debug, PartialEq, Eq)]
 pub enum Mode {
     Read,
     Write,
 }
 
 /// What a handle in use keeps.
-#[derive(Clone, Copy)]
+#[derive(Clone, Copy, Debug, PartialEq, Eq)]
 pub struct Mapping {
     pub owner: u8,
     pub reference: u8,
@@ -32,4 +36,28 @@ pub struct Grants {
     pub entries: [GrantEntry; 256],
     pub records: [Record; 256],
     pub handles: [Option<Mapping>; 512],
+}
+
+// Where the entry of a domain and its record stand.
+pub(crate) fn place(owner: u8, reference: u8) -> usize
+    ensures { result ≡ place owner reference }
+{
+    32 * owner as usize + reference as usize
+}
+
+// Where a handle of a domain stands.
+pub(crate) fn key(mapper: Domain, handle: u32) -> usize
+    ensures { result ≡ key mapper.id handle }
+{
+    64 * mapper.id as usize + handle as usize
+}
+
+impl Grants {
+    // The handles of a domain.
+    pub(crate) fn handles_of(&self, mapper: Domain) -> &[Option<Mapping>]
+        ensures { result.now ≡ handles_of mapper.id self.now.handles }
+    {
+        let start = key(mapper, 0);
+        &self.handles[start..start + 64]
+    }
 }

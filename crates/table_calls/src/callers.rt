@@ -1,5 +1,5 @@
 // What the host itself refuses, before a call's own rules.
-ghost use Rattle.std.specs.Prelude.{◌≡◌, ◌*◌, length, IfOk, Ok, OnOk};
+ghost use Rattle.std.specs.Prelude.{◌≡◌, ◌*◌, length, IfOk, OnOk};
 ghost use Rattle.rules.specs.Refusal.{refuse_first};
 ghost use Rattle.law.specs.Step.{memory_rules, guest_rules, next_rules};
 ghost use Rattle.table_calls.specs.Parts.{allowed};
@@ -25,10 +25,7 @@ pub fn domain(tables: &Tables, memory: &[u8], caller: u32) -> Result<Domain, Hos
     ensures caller { IfOk result (λ d. d.id ≡ caller) }
 {
     fitting(tables, memory)?;
-    match Domain::new(caller) {
-        Some(domain) => Ok(domain),
-        None => Err(HostFault::BadCaller),
-    }
+    Domain::try_from(caller).map_err(|_| HostFault::BadCaller)
 }
 
 /// The guest that calls.
@@ -38,8 +35,8 @@ pub fn guest(tables: &Tables, memory: &[u8], caller: u32) -> Result<Domain, Host
     ensures size { OnOk result (length memory.now ≡ 4096 * tables.now.frames.count) }
 {
     fitting(tables, memory)?;
-    match Domain::new(caller) {
-        Some(domain) if domain.id != 0 => Ok(domain),
+    match Domain::try_from(caller) {
+        Ok(domain) if domain.id != 0 => Ok(domain),
         _ => Err(HostFault::BadCaller),
     }
 }

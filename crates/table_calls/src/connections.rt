@@ -42,9 +42,10 @@ fn may_connect(
     ensures number { IfOk result (λ o. o.number ≡ new_number tables.now) }
 {
     let kind = Kind::try_from(kind).map_err(|_| RingFault::BadKind)?;
-    let Some(number) = tables.rings.free_connection() else {
-        return Err(RingFault::NoConnection);
-    };
+    let number = tables
+        .rings
+        .free_connection()
+        .ok_or(RingFault::NoConnection)?;
     let granted = tables.grants.may_map(
         &tables.frames,
         Domain { id: 0 },
@@ -91,9 +92,7 @@ fn may_disconnect(tables: &Tables, number: u32) -> Result<Connection, RingFault>
     ensures answer { result ≡ disconnect_verdict tables.now number }
     ensures within { OnOk result (number < 6) }
 {
-    let Some(connection) = tables.rings.connection(number) else {
-        return Err(RingFault::NotLive);
-    };
+    let connection = tables.rings.connection(number).ok_or(RingFault::NotLive)?;
     if tables.rings.has_jobs(number) {
         return Err(RingFault::HasJobs);
     }

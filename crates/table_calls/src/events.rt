@@ -1,5 +1,5 @@
 // Events: sent by guests, taken up by any domain.
-ghost use Rattle.std.specs.Prelude.{◌≡◌, IfOk, Ok};
+ghost use Rattle.std.specs.Prelude.{◌≡◌, IfOk};
 ghost use Rattle.rules.specs.Refusal.{refuse_first};
 ghost use Rattle.event.specs.Pending.{pick, word, marked};
 ghost use Rattle.answer.specs.declared.fault.HostFault.TheVariants.{InEvent};
@@ -19,11 +19,9 @@ fn may_send(tables: &Tables, guest: Domain, port: u32) -> Result<Port, EventFaul
     ensures answer { allowed result ≡ refuse_first (send_rules tables.now guest.id port) (Ok tt) }
     ensures port { IfOk result (λ p. p.number ≡ port) }
 {
-    if port == 0 {
-        return Err(EventFault::BadPort);
-    }
-    match tables.rings.connection(port - 1) {
-        Some(connection) if connection.guest == guest.id => Ok(Port { number: port as u8 }),
+    let number = port.checked_sub(1).ok_or(EventFault::BadPort)?;
+    match tables.rings.connection(number) {
+        Some(connection) if connection.guest == guest.id => Port::try_from(port),
         _ => Err(EventFault::BadPort),
     }
 }

@@ -1,5 +1,5 @@
 // Frames: taken, given back, loaded and stored.
-ghost use Rattle.std.specs.Prelude.{◌≡◌, ◌+◌, ◌*◌, ◌≤◌, length, Some as Just, None as Nothing, Ok, OnOk};
+ghost use Rattle.std.specs.Prelude.{◌≡◌, ◌+◌, ◌*◌, ◌≤◌, length, OnOk};
 ghost use Rattle.rules.specs.Refusal.{refuse_first};
 ghost use Rattle.frame.specs.Owners.{take_rules, give_rules, with_owner};
 ghost use Rattle.frame.specs.Access.{access_rules};
@@ -23,7 +23,7 @@ pub fn take(
     caller: u32,
     frame: u32,
 ) -> Result<Answer, HostFault>
-    ensures { GrantedBy (guest_rules tables.old memory.old caller) InFrame (refuse_first {T = Unit} (take_rules tables.old.frames frame) (Ok tt)) (λ _. Done) tables.old memory.old (λ _. with_frames (with_owner frame (Just caller) tables.old.frames) tables.old) (λ _. zeroed frame memory.old) result tables.new memory.new }
+    ensures { GrantedBy (guest_rules tables.old memory.old caller) InFrame (refuse_first {T = Unit} (take_rules tables.old.frames frame) (Ok tt)) (λ _. Done) tables.old memory.old (λ _. with_frames (with_owner frame (Some caller) tables.old.frames) tables.old) (λ _. zeroed frame memory.old) result tables.new memory.new }
 {
     let domain = guest(tables, memory, caller)?;
     tables.frames.may_take(frame)?;
@@ -39,7 +39,7 @@ pub fn give(
     caller: u32,
     frame: u32,
 ) -> Result<Answer, HostFault>
-    ensures { GrantedBy (guest_rules tables.old memory.now caller) InFrame (refuse_first {T = Unit} (give_rules tables.old.frames (pins tables.old.grants.records frame) caller frame) (Ok tt)) (λ _. Done) tables.old memory.now (λ _. with_frames (with_owner frame Nothing tables.old.frames) tables.old) (λ _. memory.now) result tables.new memory.now }
+    ensures { GrantedBy (guest_rules tables.old memory.now caller) InFrame (refuse_first {T = Unit} (give_rules tables.old.frames (pins tables.old.grants.records frame) caller frame) (Ok tt)) (λ _. Done) tables.old memory.now (λ _. with_frames (with_owner frame None tables.old.frames) tables.old) (λ _. memory.now) result tables.new memory.now }
 {
     let domain = guest(tables, memory, caller)?;
     let pins = tables.grants.pins(frame);

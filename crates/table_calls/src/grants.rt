@@ -1,5 +1,4 @@
 // Grants: entries written and ended, mappings made and ended.
-ghost use Rattle.std.specs.Prelude.{Ok};
 ghost use Rattle.rules.specs.Refusal.{refuse_first};
 ghost use Rattle.grant.specs.Tables.{place, entry_at};
 ghost use Rattle.grant.specs.Entries.{entry_rules, end_rules, with_entry, with_flags};

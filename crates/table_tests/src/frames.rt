@@ -1,25 +1,18 @@
 // Owners and the bytes of frames.
-use frame::{Domain, FrameFault, Frames, read_part, write_part, zero_frame};
+use frame::{Domain, FrameFault, Frames, NoDomain, read_part, write_part, zero_frame};
 use std::test::Fail;
 
 // The number of a refusal, or 0.
 fn number(r: Result<(), FrameFault>) -> i32 {
-    match r {
-        Ok(()) => 0,
-        Err(fault) => fault.number(),
-    }
+    r.err().map_or(0, |fault| fault.number())
 }
 
 // Two frames. Domain 1 owns frame 0; frame 2 is past the end.
 #[test]
 fn verdicts(rt: HostRuntime) -> Result<(), Fail> {
-    let Some(one) = Domain::new(1) else {
-        return Err(Fail::new("1 is a domain"));
-    };
-    let Some(two) = Domain::new(2) else {
-        return Err(Fail::new("2 is a domain"));
-    };
-    assert!(rt; Domain::new(8).is_none());
+    let one = Domain::try_from(1)?;
+    let two = Domain::try_from(2)?;
+    assert_eq!(rt; Domain::try_from(8), Err(NoDomain));
     let mut frames = Frames::new(2);
     assert_eq!(rt; number(frames.may_take(2)), -9);
     assert_eq!(rt; number(frames.may_take(0)), 0);

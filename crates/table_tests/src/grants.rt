@@ -1,63 +1,64 @@
 // Maps and unmaps of one frame: domain 1 owns frame 3 and grants it to domain 2.
 use abi::GrantEntry;
 use frame::{Domain, Frames};
-use grant::Grants;
+use grant::{GrantFault, Grants, Mode, Reference};
 use std::test::Fail;
+
+fn entry(flags: u16, domid: u16, frame: u32) -> GrantEntry {
+    GrantEntry {
+        flags,
+        domid,
+        frame,
+    }
+}
+
+// The frames of a host, of which domain 1 owns frame 3.
+fn owned_by(one: Domain) -> Frames {
+    let mut frames = Frames::new(8);
+    frames.settle(one, 3);
+    frames
+}
 
 // The number of the refusal of domain 2's map of an entry of domain 1, or 0 where it may.
 fn verdict(grants: &Grants, frames: &Frames, two: Domain, reference: u32, mode: u32) -> i32 {
-    match grants.may_map(frames, two, 1, reference, mode) {
-        Ok(_) => 0,
-        Err(fault) => fault.number(),
-    }
+    grants
+        .may_map(frames, two, 1, reference, mode)
+        .err()
+        .map_or(0, |fault| fault.number())
+}
+
+// Domain 2 maps entry 0 of domain 1, and gets this handle.
+fn map(grants: &mut Grants, frames: &Frames, two: Domain, mode: u32) -> Result<u8, GrantFault> {
+    let granted = grants.may_map(frames, two, 1, 0, mode)?;
+    grants.pin(two, granted);
+    Ok(granted.handle)
+}
+
+#[test]
+fn numbers(rt: HostRuntime) -> Result<(), Fail> {
+    assert_eq!(rt; Reference::try_from(31)?.number, 31);
+    assert_eq!(rt; Reference::try_from(32), Err(GrantFault::NoReference));
+    assert_eq!(rt; Mode::try_from(0), Ok(Mode::Read));
+    assert_eq!(rt; Mode::try_from(1), Ok(Mode::Write));
+    assert_eq!(rt; Mode::try_from(2), Err(GrantFault::BadMode));
+    Ok(())
 }
 
 #[test]
 fn refusals(rt: HostRuntime) -> Result<(), Fail> {
-    let Some(one) = Domain::new(1) else {
-        return Err(Fail::new("1 is a domain"));
-    };
-    let Some(two) = Domain::new(2) else {
-        return Err(Fail::new("2 is a domain"));
-    };
-    let mut frames = Frames::new(8);
-    frames.settle(one, 3);
+    let one = Domain::try_from(1)?;
+    let two = Domain::try_from(2)?;
+    let frames = owned_by(one);
     let mut grants = Grants::new();
-    let Ok(reference) = Grants::may_write(5) else {
-        return Err(Fail::new("5 is a reference"));
-    };
+    let reference = Grants::may_write(5)?;
     assert!(rt; Grants::may_write(32).is_err());
     // nothing granted; then to another domain; then a frame of somebody else's; then for reading only
     assert_eq!(rt; verdict(&grants, &frames, two, 5, 0), -1);
-    grants.write_entry(
-        one,
-        reference,
-        GrantEntry {
-            flags: 1,
-            domid: 3,
-            frame: 3,
-        },
-    );
+    grants.write_entry(one, reference, entry(1, 3, 3));
     assert_eq!(rt; verdict(&grants, &frames, two, 5, 0), -1);
-    grants.write_entry(
-        one,
-        reference,
-        GrantEntry {
-            flags: 1,
-            domid: 2,
-            frame: 4,
-        },
-    );
+    grants.write_entry(one, reference, entry(1, 2, 4));
     assert_eq!(rt; verdict(&grants, &frames, two, 5, 0), -9);
-    grants.write_entry(
-        one,
-        reference,
-        GrantEntry {
-            flags: 5,
-            domid: 2,
-            frame: 3,
-        },
-    );
+    grants.write_entry(one, reference, entry(5, 2, 3));
     assert_eq!(rt; verdict(&grants, &frames, two, 5, 0), 0);
     assert_eq!(rt; verdict(&grants, &frames, two, 5, 1), -8);
     assert_eq!(rt; verdict(&grants, &frames, two, 32, 1), -3);
@@ -70,51 +71,22 @@ fn refusals(rt: HostRuntime) -> Result<(), Fail> {
 // go one by one; 16 goes with the writer.
 #[test]
 fn pins_outlive_the_entry(rt: HostRuntime) -> Result<(), Fail> {
-    let Some(one) = Domain::new(1) else {
-        return Err(Fail::new("1 is a domain"));
-    };
-    let Some(two) = Domain::new(2) else {
-        return Err(Fail::new("2 is a domain"));
-    };
-    let mut frames = Frames::new(8);
-    frames.settle(one, 3);
+    let one = Domain::try_from(1)?;
+    let two = Domain::try_from(2)?;
+    let frames = owned_by(one);
     let mut grants = Grants::new();
-    let Ok(reference) = Grants::may_write(0) else {
-        return Err(Fail::new("0 is a reference"));
-    };
-    grants.write_entry(
-        one,
-        reference,
-        GrantEntry {
-            flags: 1,
-            domid: 2,
-            frame: 3,
-        },
-    );
-    let Ok(read) = grants.may_map(&frames, two, 1, 0, 0) else {
-        return Err(Fail::new("the read map was refused"));
-    };
-    assert_eq!(rt; read.handle, 0);
-    grants.pin(two, read);
+    let reference = Grants::may_write(0)?;
+    grants.write_entry(one, reference, entry(1, 2, 3));
+    let read = map(&mut grants, &frames, two, 0)?;
+    assert_eq!(rt; read, 0);
     assert_eq!(rt; grants.entry(one, reference).flags, 9);
-    let Ok(write) = grants.may_map(&frames, two, 1, 0, 1) else {
-        return Err(Fail::new("the write map was refused"));
-    };
-    assert_eq!(rt; write.handle, 1);
-    grants.pin(two, write);
+    let write = map(&mut grants, &frames, two, 1)?;
+    assert_eq!(rt; write, 1);
     assert_eq!(rt; grants.entry(one, reference).flags, 25);
     assert_eq!(rt; grants.pins(3), 2);
     assert!(rt; grants.writes_frame(two, 3));
     assert!(rt; grants.may_end(one, 0).is_err());
-    grants.write_entry(
-        one,
-        reference,
-        GrantEntry {
-            flags: 0,
-            domid: 0,
-            frame: 0,
-        },
-    );
+    grants.write_entry(one, reference, entry(0, 0, 0));
     assert_eq!(rt; grants.pins(3), 2);
     grants.unpin(two, 1);
     assert_eq!(rt; grants.pins(3), 1);

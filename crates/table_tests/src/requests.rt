@@ -27,10 +27,9 @@ fn block(operation: u8, count: u8, first: u8, last: u8) -> Request {
 
 // The status that a request is refused with, and the segment, or 0 and 0.
 fn refusal(request: &Request) -> (i16, u8) {
-    match check_fields(request) {
-        Ok(()) => (0, 0),
-        Err(miss) => (miss.fault.status(), miss.place),
-    }
+    check_fields(request)
+        .err()
+        .map_or((0, 0), |miss| (miss.fault.status(), miss.place))
 }
 
 #[test]

@@ -8,7 +8,7 @@ use std::test::Fail;
 
 // The header is 0, 1, 0, 1 in words of four bytes, and zeros up to byte 63; byte 64, the first slot's, stays.
 #[test]
-fn header(rt: HostRuntime) -> Result<(), Fail> {
+fn header(rt: HostRuntime) {
     let mut memory = [7u8; 8192];
     assert!(rt; write_fresh_header(&mut memory, 1).is_ok());
     let places: [(usize, u8); 7] = [
@@ -26,12 +26,11 @@ fn header(rt: HostRuntime) -> Result<(), Fail> {
     assert!(rt; set_word(&mut memory, 1, Word::RspProd, 0x0102_0304).is_ok());
     assert_eq!(rt; memory.get(4104).copied(), Some(4));
     assert_eq!(rt; memory.get(4107).copied(), Some(1));
-    match read_word(&memory, 1, Word::RspProd) {
-        Ok(word) => assert_eq!(rt; word, 0x0102_0304),
-        Err(_) => return Err(Fail::new("the word was not read")),
-    }
+    assert_eq!(rt;
+        read_word(&memory, 1, Word::RspProd).ok(),
+        Some(0x0102_0304)
+    );
     assert!(rt; read_word(&memory, 2, Word::ReqProd).is_err());
-    Ok(())
 }
 
 // Index 257 of a receive ring uses slot 1, which starts at byte 64 + 8 = 72 of the page, 4168 of the memory. Its request
@@ -41,13 +40,11 @@ fn request_and_response(rt: HostRuntime) -> Result<(), Fail> {
     let mut memory = [0u8; 8192];
     let slot: [u8; 8] = [1, 2, 9, 9, 8, 9, 10, 11];
     assert!(rt; frame::write_part(&mut memory, 1, 72, &slot).is_ok());
-    match copy_request(&memory, 1, Kind::Receive, 257) {
-        Ok(Request::OfReceive(request)) => {
-            assert_eq!(rt; request.id, 0x0201);
-            assert_eq!(rt; request.reference, 0x0b0a_0908);
-        }
-        _ => return Err(Fail::new("no receive request was read")),
-    }
+    let Ok(Request::OfReceive(request)) = copy_request(&memory, 1, Kind::Receive, 257) else {
+        return Err(Fail::new("no receive request was read"));
+    };
+    assert_eq!(rt; request.id, 0x0201);
+    assert_eq!(rt; request.reference, 0x0b0a_0908);
     let reply = Reply {
         id: 0x0201,
         operation: 0,

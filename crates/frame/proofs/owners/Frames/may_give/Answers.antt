@@ -1,5 +1,0 @@
-use Rattle.std.proofs.Common.{rules}
-use Rattle.frame.proofs.owners.Frames.may_give.Goals as goal
-
-pub returns : goal.returns
-returns c = search rules

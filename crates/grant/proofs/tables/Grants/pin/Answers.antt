@@ -1,5 +1,0 @@
-use Rattle.std.proofs.Common.{rules}
-use Rattle.grant.proofs.tables.Grants.pin.Goals as goal
-
-pub returns : goal.returns
-returns c = search rules
