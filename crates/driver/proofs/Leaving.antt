@@ -1,31 +1,35 @@
 -- What a back end leaves, by the way that it went.
-use Rattle.std.proofs.Common.{◌≡◌, ℕ, ◌<◌, Bool, true, false, cond, List, length, get_or, ℤ, Some, None, Ok, Err, Option, Result, sym, refl, ap, ◌∙◌, subst, ap₂, inl, inr, arith}
+use Rattle.std.proofs.Common.{◌≡◌, ℕ, ◌<◌, Bool, true, false, cond, ◌||◌, eqb, List, [], ◌∷◌, length, is_none, get_or, ℤ, Some, None, Ok, Err, Option, Result, sym, refl, ap, ◌∙◌, subst, ap₂, inl, inr, arith, Bor}
 use Rattle.std.proofs.lemmas.List.{get_or_past}
 use Rattle.std.proofs.lemmas.Bool.{cases_lt}
-use Rattle.rules.specs.Refusal.{if_some, granting, either_of}
-use Rattle.device.specs.Meaning.{Rules, ready_ticket, finishing}
+use Rattle.std.specs.Option.{option_map, ok_or}
+use Rattle.std.specs.Result.{result_ok}
+use Rattle.rules.specs.Refusal.{refuse_first, and_then, if_some, granting, either_of}
+use Rattle.device.specs.Meaning.{Rules, is_full, ready_ticket, finishing}
 use Rattle.device.specs.declared.fault.DeviceFault.{DeviceFault}
 use Rattle.device.specs.declared.orders.Order.{Order}
 use Rattle.ring.specs.Fault.{status_of}
 use Rattle.ring.specs.declared.fault.RingFault.{RingFault}
-use Rattle.ring.specs.declared.fault.RingFault.TheVariants.{NoJob, OfDevice}
+use Rattle.ring.specs.declared.fault.RingFault.TheVariants.{Busy, NoJob, OfDevice}
 use Rattle.ringpage.specs.declared.slot.Request.{Request}
 use Rattle.request.specs.Content.{id_of, operation_of}
 use Rattle.request.specs.declared.fields.Miss.{Miss}
-use Rattle.connection.specs.Tables.{connection_at, with_job, handles_of, job_at, in_bay, parts_of}
+use Rattle.connection.specs.Tables.{connection_at, has_two_jobs, with_job, handles_of, job_at, in_bay, parts_of}
 use Rattle.connection.specs.declared.kinds.Bay.{Bay}
 use Rattle.connection.specs.declared.tables.Connection.{Connection}
 use Rattle.connection.specs.declared.tables.Job.{Job}
 use Rattle.connection.specs.declared.tables.Rings.{Rings}
 use Rattle.event.specs.declared.pending.Events.{Events}
 use Rattle.grant.specs.declared.tables.Grants.{Grants}
+use Rattle.backend.specs.Look.{look, next_request, event_asked, consumed, consumed_on}
 use Rattle.backend.specs.Segments.{released_all}
 use Rattle.backend.specs.Move.{moving, moved_memory, moved_device}
 use Rattle.backend.specs.Respond.{responded_memory, responded_rings, responded_events, Responded}
 use Rattle.backend.specs.declared.tables.Tables.{Tables}
 use Rattle.answer.specs.declared.reply.Answer.{Answer}
 use Rattle.answer.specs.declared.reply.Answer.TheVariants.{AnsweredNow, Idle, Completed}
-use Rattle.law.specs.Serve.{Outcome, responded, answered_now}
+use Rattle.law.specs.World.{with_rings}
+use Rattle.law.specs.Serve.{Outcome, responded, answered_now, spent, served_on}
 use Rattle.law.specs.Complete.{closed, finished, broken_off, completed, completed_job}
 use Rattle.driver.specs.Outcomes.{Leaves, Answered}
 
@@ -38,6 +42,47 @@ fault_some (Some g) f e = cc
 pub ticket_free : (busy : Bool) (n t : ℕ) → cond busy None (Some n) ≡ Some t → (busy ≡ false) × (t ≡ n)
 ticket_free true n t e = absurd (let z : ◌≡◌ {A = ℕ} 0 1 = cc in omega arith)
 ticket_free false n t e = (refl, cc)
+
+-- without a ticket it is busy
+pub none_free : (busy : Bool) (n : ℕ) → is_none (cond busy None (Some n)) ≡ busy
+none_free true n = refl
+none_free false n = refl
+
+-- a look that gives a ticket found a request, and one that gives none found none
+module _ (o : Option ℕ) where
+  abbrev given : Result Bool RingFault → Result (Option ℕ) RingFault
+  given v = granting (λ next. cond next o None) v
+
+  pub found_ticket : (v : Result Bool RingFault) (t : ℕ) → Ok (Some t) ≡ given v → (v ≡ Ok true) × (o ≡ Some t)
+  found_ticket (Ok true) t e = (refl, cc)
+  found_ticket (Ok false) t e = absurd (let z : ◌≡◌ {A = ℕ} 0 1 = cc in omega arith)
+  found_ticket (Err f) t e = absurd (let z : ◌≡◌ {A = ℕ} 0 1 = cc in omega arith)
+
+  pub found_fault : (v : Result Bool RingFault) (f : RingFault) → Err f ≡ given v → v ≡ Err f
+  found_fault (Ok b) f e = absurd (let z : ◌≡◌ {A = ℕ} 0 1 = cc in omega arith)
+  found_fault (Err g) f e = cc
+
+abbrev counted : Bool → Bool → Result Bool RingFault
+counted busy none = cond none (Ok false) (refuse_first ((busy, Busy) ∷ []) (Ok true))
+
+none_counted : (o : Option ℕ) (none : Bool) → Ok None ≡ given o (counted (is_none o) none) → counted (is_none o) none ≡ Ok false
+none_counted o true e = refl
+none_counted None false e = absurd (let z : ◌≡◌ {A = ℕ} 0 1 = cc in omega arith)
+none_counted (Some t) false e = absurd (let z : ◌≡◌ {A = ℕ} 0 1 = cc in omega arith)
+
+pub found_none : (o : Option ℕ) (ahead : Result ℕ RingFault)
+    → Ok None ≡ given o (and_then ahead (λ n. counted (is_none o) (eqb n 0))) → and_then ahead (λ n. counted (is_none o) (eqb n 0)) ≡ Ok false
+found_none o (Ok n) e = none_counted o (eqb n 0) e
+found_none o (Err f) e = absurd (let z : ◌≡◌ {A = ℕ} 0 1 = cc in omega arith)
+
+-- a job that was looked up, or was not there
+pub given_job : {T : Type 0} (o : Option (Bor T)) (r : Result (Bor T) RingFault) (j : Bor T) (v : Option T)
+    → option_map (λ (y : Bor T). y.now) o ≡ v → o ≡ result_ok r → r ≡ Ok j → Some j.now ≡ v
+given_job {T} o r j v is part was = sym (ap (option_map (λ (y : Bor T). y.now)) (part ∙ ap result_ok was)) ∙ is
+
+pub ok_or_err : {T E : Type 0} (o : Option T) (d e : E) (r : Result T E) → r ≡ ok_or o d → r ≡ Err e → (o ≡ None) × (e ≡ d)
+ok_or_err None d e r is was = (refl, cc)
+ok_or_err (Some x) d e r is was = absurd (let z : ◌≡◌ {A = ℕ} 0 1 = cc in omega arith)
 
 -- what stands in a table stands within it
 pub within_some : {X : Type 0} (xs : List (Option X)) (k : ℕ) (x : X) → get_or xs k None ≡ Some x → k < length xs
@@ -73,6 +118,21 @@ module _ {X : Type 0} where
         memory = after.memory ∙ ap (λ (o : Option Connection). if_some o m (λ n. responded_memory n id operation s m)) live ∙ bytes;
         device = refl;
       }
+
+  -- a live connection, by what is seen of it
+  pub looked_at : (D : Rules X) (c : ℕ) (k : Connection) (H : Tables) (m : List ℕ) (x : X) (r : Result Bool RingFault)
+      → look (is_full D x || has_two_jobs H.rings.jobs c) k m ≡ r
+      → served_on D c k H m x ≡ either_of r
+      (λ there. cond there
+      (spent D c (consumed k) (next_request k m) (with_rings (consumed_on c k H.rings) H) m x)
+      (record { answer = Ok Idle; host = H; memory = event_asked k m; device = x }))
+      (λ e. record { answer = Err e; host = H; memory = m; device = x })
+  looked_at D c k H m x r is =
+      ap (λ (v : Result Bool RingFault). either_of v
+      (λ there. cond there
+      (spent D c (consumed k) (next_request k m) (with_rings (consumed_on c k H.rings) H) m x)
+      (record { answer = Ok Idle; host = H; memory = event_asked k m; device = x }))
+      (λ e. record { answer = Err e; host = H; memory = m; device = x })) is
 
   -- the device's own fault is passed up
   pub broken_leaves : (D : Rules X) (e : DeviceFault) (H : Tables) (m : List ℕ) (x : X) (r : Result Answer RingFault) (m' : List ℕ) (x' : X)
@@ -122,6 +182,17 @@ module _ {X : Type 0} where
       ap (λ (o : Option ℕ). if_some o (record { answer = Ok Idle; host = H; memory = m; device = x })
       (λ n. if_some (in_bay b (job_at H.rings n)) (record { answer = Err NoJob; host = H; memory = m; device = x }) (λ i. completed_job D n i H m x))) (sym ready)
       ∙ ap (λ (o : Option Job). if_some o (record { answer = Err NoJob; host = H; memory = m; device = x }) (λ i. completed_job D t i H m x)) (sym job)
+
+  -- no job of the bay is under the ticket
+  pub no_job_leaves : (D : Rules X) (b : Bay) (t : ℕ) (H : Tables) (m : List ℕ) (x : X) (r : Result Answer RingFault)
+      → Some t ≡ ready_ticket D x → None ≡ in_bay b (job_at H.rings t) → r ≡ Err NoJob → Leaves (completed D b H m x) r H m x
+  unfolding completed
+  no_job_leaves D b t H m x r ready job answer =
+      leaves_by _ _ r H m x
+      (ap (λ (o : Option ℕ). if_some o (record { answer = Ok Idle; host = H; memory = m; device = x })
+      (λ n. if_some (in_bay b (job_at H.rings n)) (record { answer = Err NoJob; host = H; memory = m; device = x }) (λ i. completed_job D n i H m x))) (sym ready)
+      ∙ ap (λ (o : Option Job). if_some o (record { answer = Err NoJob; host = H; memory = m; device = x }) (λ i. completed_job D t i H m x)) (sym job))
+      (record { answer = answer; tables = refl; memory = refl; device = refl })
 
   -- its bytes did not move, or its order did not end, or both went well
   module _ (D : Rules X) (t : ℕ) (j : Job) (H : Tables) (m : List ℕ) (x : X) where

@@ -20,9 +20,7 @@ pub fn complete<D: Device>(
     let Some(ticket) = device.ready() else {
         return Ok(Answer::Idle);
     };
-    let Some(job) = tables.rings.job(bay, ticket) else {
-        return Err(RingFault::NoJob);
-    };
+    let job = tables.rings.job(bay, ticket).ok_or(RingFault::NoJob)?;
     move_bytes(device, ticket, job, memory)?;
     let status = device.done(ticket)?;
     unpin_segments(&mut tables.grants, job);

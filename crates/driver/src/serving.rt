@@ -1,5 +1,5 @@
 // serve: a request is taken off its ring, and either handed to the device or answered at once.
-ghost use Rattle.std.specs.Prelude.{◌≡◌, ◌<◌, ◌||◌, if◌then◌else◌, Some as Just, None as Nothing, Ok as Granting};
+ghost use Rattle.std.specs.Prelude.{◌≡◌, ◌<◌, ◌||◌, if◌then◌else◌};
 ghost use Rattle.device.specs.Meaning.{is_full};
 ghost use Rattle.request.specs.Checked.{asked_by};
 ghost use Rattle.request.specs.Content.{id_of, operation_of};
@@ -47,11 +47,11 @@ fn hand_over<D: Device>(
     checked: &Checked,
     ticket: u8,
 ) -> Answer
-    requires live { connection_at tables.old.rings token.connection ≡ Just (consumed connection.now) }
+    requires live { connection_at tables.old.rings token.connection ≡ Some (consumed connection.now) }
     requires id { token.id ≡ id_of request.now }
     requires operation { token.operation ≡ operation_of request.now }
     requires ticket { ticket ≡ next_ticket tables.old.rings.jobs token.connection }
-    ensures { Leaves (segments_mapped D.rules token.connection (consumed connection.now) request.now (asked_by checked.now) tables.old memory.old (D.meaning device.old)) (Granting result) tables.new memory.new (D.meaning device.new) }
+    ensures { Leaves (segments_mapped D.rules token.connection (consumed connection.now) request.now (asked_by checked.now) tables.old memory.old (D.meaning device.old)) (Ok result) tables.new memory.new (D.meaning device.new) }
 {
     let mut job = job_for(token.connection, connection.kind, checked);
     if let Err(miss) = pin_segments(
@@ -70,11 +70,7 @@ fn hand_over<D: Device>(
         }
         Err(fault) => {
             unpin_segments(&mut tables.grants, &job);
-            let miss = Miss {
-                fault: RingFault::OfDevice(fault),
-                place: 0,
-            };
-            answer_now(tables, memory, token, miss)
+            answer_now(tables, memory, token, RingFault::from(fault).into())
         }
     }
 }
@@ -89,11 +85,11 @@ fn spend<D: Device>(
     request: &Request,
     ticket: u8,
 ) -> Answer
-    requires live { connection_at tables.old.rings token.connection ≡ Just (consumed connection.now) }
+    requires live { connection_at tables.old.rings token.connection ≡ Some (consumed connection.now) }
     requires id { token.id ≡ id_of request.now }
     requires operation { token.operation ≡ operation_of request.now }
     requires ticket { ticket ≡ next_ticket tables.old.rings.jobs token.connection }
-    ensures { Leaves (spent D.rules token.connection (consumed connection.now) request.now tables.old memory.old (D.meaning device.old)) (Granting result) tables.new memory.new (D.meaning device.new) }
+    ensures { Leaves (spent D.rules token.connection (consumed connection.now) request.now tables.old memory.old (D.meaning device.old)) (Ok result) tables.new memory.new (D.meaning device.new) }
 {
     match check(request, device) {
         Ok(checked) => hand_over(
@@ -106,7 +102,7 @@ fn spend<D: Device>(
 // The ticket for a connection's next job, unless its back end is busy: the device is full, or has two jobs of it.
 fn free_ticket<D: Device>(device: &D, rings: &Rings, number: u8) -> Option<u8>
     requires { number < 6 }
-    ensures { result ≡ (if is_full D.rules (D.meaning device.now) || has_two_jobs rings.now.jobs number then Nothing else Just (next_ticket rings.now.jobs number)) }
+    ensures { result ≡ (if is_full D.rules (D.meaning device.now) || has_two_jobs rings.now.jobs number then None else Some (next_ticket rings.now.jobs number)) }
 {
     if device.full() {
         return None;
@@ -122,17 +118,14 @@ fn serve_live<D: Device>(
     number: u8,
     connection: &Connection,
 ) -> Result<Answer, RingFault>
-    requires live { connection_at tables.old.rings number ≡ Just connection.now }
+    requires live { connection_at tables.old.rings number ≡ Some connection.now }
     requires within { number < 6 }
     ensures { Leaves (served_on D.rules number connection.now tables.old memory.old (D.meaning device.old)) result tables.new memory.new (D.meaning device.new) }
 {
     let ticket = free_ticket(device, &tables.rings, number);
-    if !look(connection, memory, ticket.is_none())? {
+    let Some(ticket) = look(connection, memory, ticket)? else {
         ask_event(connection, memory);
         return Ok(Answer::Idle);
-    }
-    let Some(ticket) = ticket else {
-        return Err(RingFault::Busy);
     };
     let request = next_request(connection, memory);
     let token = consume(&mut tables.rings, number, connection, &request);
@@ -148,8 +141,6 @@ pub fn serve<D: Device>(
 ) -> Result<Answer, RingFault>
     ensures { Leaves (served D.rules number tables.old memory.old (D.meaning device.old)) result tables.new memory.new (D.meaning device.new) }
 {
-    let Some(connection) = tables.rings.connection(number) else {
-        return Err(RingFault::NotLive);
-    };
+    let connection = tables.rings.connection(number).ok_or(RingFault::NotLive)?;
     serve_live(tables, memory, device, number as u8, &connection)
 }

@@ -1,4 +1,6 @@
 // The calls on the tables. The whole machine is lent to each: the memory, the block device and the network device.
+// Three arguments and not one struct, since each call asks for no more than it needs: a struct would ask for all of
+// them exclusively.
 ghost use Rattle.std.specs.Prelude.{length};
 ghost use Rattle.event.specs.Pending.{pick};
 ghost use Rattle.law.specs.Call.{Take, Give, Load, Store, Entry, End, Map, Unmap, Send, Next, Connect, Disconnect};

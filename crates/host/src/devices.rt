@@ -26,10 +26,8 @@ fn passed_up(answer: Result<Answer, RingFault>) -> Result<Answer, HostFault>
 fn serving_bay(rings: &Rings, number: u32) -> Bay
     ensures { result ≡ serving_bay (connection_at rings.now number) }
 {
-    match rings.connection(number) {
-        Some(connection) => bay_of(connection.kind),
-        None => Bay::BlockBay,
-    }
+    let connection = rings.connection(number);
+    connection.map_or(Bay::BlockBay, |connection| bay_of(connection.kind))
 }
 
 impl Host {

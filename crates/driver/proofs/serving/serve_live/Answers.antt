@@ -1,17 +1,18 @@
-use Rattle.std.proofs.Common.{◌≡◌, Bool, true, false, cond, ◌||◌, Some, None, Ok, Err, Result, sym, ap, ◌∙◌, ap₂, rules}
+use Rattle.std.proofs.Common.{true, false, ◌||◌, is_none, Some, None, Ok, Err, sym, refl, ap, ◌∙◌, ap₂}
 use Rattle.std.proofs.lemmas.List.{get_or-set_same}
-use Rattle.rules.specs.Refusal.{either_of}
+use Rattle.std.proofs.lemmas.Result.{err_from_is_err_and}
 use Rattle.device.specs.Meaning.{is_full}
-use Rattle.ring.specs.declared.fault.RingFault.{RingFault}
+use Rattle.ring.specs.Producer.{ahead}
+use Rattle.ring.specs.Total.{word_or_zero}
+use Rattle.ring.specs.declared.page.Word.TheVariants.{ReqProd}
 use Rattle.ringpage.specs.declared.slot.Request.{Request}
 use Rattle.connection.specs.Tables.{connection_at, next_ticket, has_two_jobs}
 use Rattle.connection.specs.declared.tables.Rings.{Rings}
-use Rattle.backend.specs.Look.{look, next_request, event_asked, consumed, consumed_on}
+use Rattle.backend.specs.Look.{look, consumed, consumed_on}
 use Rattle.backend.specs.declared.consumed.Consumed.{Consumed}
-use Rattle.answer.specs.declared.reply.Answer.TheVariants.{Idle}
 use Rattle.law.specs.World.{with_rings}
 use Rattle.law.specs.Serve.{Outcome, spent}
-use Rattle.driver.proofs.Leaving.{ticket_free, within_some, leaves_by}
+use Rattle.driver.proofs.Leaving.{ticket_free, none_free, found_ticket, found_fault, found_none, within_some, leaves_by, looked_at}
 use Rattle.driver.proofs.serving.serve_live.Goals as goal
 
 pub spend-requires : goal.spend-requires
@@ -19,10 +20,12 @@ spend-requires g c =
     let n = c.args.number in
     let C = c.args.tables.now.rings in
     let k = c.args.connection.now in
+    let o = c.free_ticket-ticket.result in
     let busy = is_full g.D.Device.rules (g.D.Device.meaning c.args.device.now) || has_two_jobs C.jobs n in
     let rings = c.consume-token.ensures.rings in
     let token = c.consume-token.ensures.token in
-    let free = ticket_free busy (next_ticket C.jobs n) c.in-Some.ticket (sym c.free_ticket-ticket.ensures ∙ c.in-Some.is) in
+    let found = found_ticket o (look (is_none o) k c.args.memory.now) c.in-Some.ticket (ap Ok (sym c.in-Some.is) ∙ sym c.in_ok-ticket.was ∙ c.look.ensures) in
+    let free = ticket_free busy (next_ticket C.jobs n) c.in-Some.ticket (sym c.free_ticket-ticket.ensures ∙ found.1) in
     record {
       live = ap₂ (λ (K : Rings) (t : Consumed). connection_at K t.connection) rings token
           ∙ get_or-set_same C.connections n (Some (consumed k)) None (within_some C.connections n k c.requires.live);
@@ -30,6 +33,38 @@ spend-requires g c =
       operation = ap (λ (t : Consumed). t.operation) token;
       ticket = free.1 ∙ sym (ap₂ (λ (K : Rings) (t : Consumed). next_ticket K.jobs t.connection) rings token);
     }
+
+pub returns-in_default : goal.returns-in_default
+returns-in_default g c =
+    let D = g.D.Device.rules in
+    let x = g.D.Device.meaning c.args.device.now in
+    let n = c.args.number in
+    let H = c.args.tables.now in
+    let m = c.args.memory.now in
+    let k = c.args.connection.now in
+    let o = c.free_ticket-ticket.result in
+    let busy = is_full D x || has_two_jobs H.rings.jobs n in
+    let same = ap is_none c.free_ticket-ticket.ensures ∙ none_free busy (next_ticket H.rings.jobs n) in
+    let none = found_none o (ahead k.kind k.req_cons k.rsp_prod (word_or_zero m k.page ReqProd)) (ap Ok (sym c.in_default.is) ∙ sym c.in_ok-ticket.was ∙ c.look.ensures) in
+    leaves_by _ _ _ _ _ _ (looked_at D n k H m x (Ok false) (ap (λ b. look b k m) (sym same) ∙ none))
+    (record { answer = refl; tables = refl; memory = c.ask_event.ensures.after; device = refl })
+
+pub returns-in_err-ticket : goal.returns-in_err-ticket
+returns-in_err-ticket g c =
+    let D = g.D.Device.rules in
+    let x = g.D.Device.meaning c.args.device.now in
+    let n = c.args.number in
+    let H = c.args.tables.now in
+    let m = c.args.memory.now in
+    let k = c.args.connection.now in
+    let o = c.free_ticket-ticket.result in
+    let e = c.in_err-ticket.field-0.0 in
+    let busy = is_full D x || has_two_jobs H.rings.jobs n in
+    let same = ap is_none c.free_ticket-ticket.ensures ∙ none_free busy (next_ticket H.rings.jobs n) in
+    let fault = found_fault o (look (is_none o) k m) e (sym c.in_err-ticket.was ∙ c.look.ensures) in
+    let p = err_from_is_err_and c.from_residual.result c.from_residual.ensures.1 in
+    leaves_by _ _ _ _ _ _ (looked_at D n k H m x (Err e) (ap (λ b. look b k m) (sym same) ∙ fault))
+    (record { answer = p.1 ∙ ap Err p.2; tables = refl; memory = refl; device = refl })
 
 pub returns : goal.returns
 returns g c =
@@ -39,16 +74,13 @@ returns g c =
     let H = c.args.tables.now in
     let m = c.args.memory.now in
     let k = c.args.connection.now in
+    let o = c.free_ticket-ticket.result in
     let busy = is_full D x || has_two_jobs H.rings.jobs n in
-    let free = ticket_free busy (next_ticket H.rings.jobs n) c.in-Some.ticket (sym c.free_ticket-ticket.ensures ∙ c.in-Some.is) in
-    let quiet : c.is_none.result ≡ false = search rules in
-    let looked : look busy k m ≡ Ok true =
-    ap (λ b. look b k m) (free.0 ∙ sym quiet) ∙ sym c.look.ensures ∙ c.in_ok-look.was ∙ ap Ok c.if-not-branch.false in
+    let same = ap is_none c.free_ticket-ticket.ensures ∙ none_free busy (next_ticket H.rings.jobs n) in
+    let found = found_ticket o (look (is_none o) k m) c.in-Some.ticket (ap Ok (sym c.in-Some.is) ∙ sym c.in_ok-ticket.was ∙ c.look.ensures) in
     let on : Request → Rings → Consumed → Outcome g.D.Device.Meaning = λ q C t. spent D t.connection (consumed k) q (with_rings C H) m x in
     leaves_by _ _ _ _ _ _
-    (ap (λ (r : Result Bool RingFault). either_of r
-    (λ there. cond there (on (next_request k m) (consumed_on n k H.rings) (record { connection = n; id = 0; operation = 0 })) (record { answer = Ok Idle; host = H; memory = event_asked k m; device = x }))
-    (λ e. record { answer = Err e; host = H; memory = m; device = x })) looked
+    (looked_at D n k H m x (Ok true) (ap (λ b. look b k m) (sym same) ∙ found.0)
     ∙ ap (λ q. on q (consumed_on n k H.rings) (record { connection = n; id = 0; operation = 0 })) (sym c.next_request-request.ensures)
     ∙ ap₂ (on c.next_request-request.result) (sym c.consume-token.ensures.rings) (sym c.consume-token.ensures.token))
     c.spend.ensures
