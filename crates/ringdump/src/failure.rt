@@ -1,67 +1,33 @@
 // Why ringdump ends with status 1, in one line that says what was expected.
 use listing::DumpFault;
 use ringpage::Overrun;
-use std::alloc::{AllocError, AllocFailed};
-use std::{fmt, io};
+use std::alloc::AllocError;
+use std::io;
+use thiserror::Error;
 
-#[derive(Drop)]
+#[derive(Debug, Drop, Error)]
 pub enum Failure {
+    #[error("expected a kind and a file, ringdump KIND FILE, and got {0} arguments")]
     Usage(usize),
+    #[error("unknown kind {0}: expected block, send or receive")]
     UnknownKind(String),
+    #[error("{0}: expected one page of 4096 bytes, and it cannot be read: {1}")]
     Unreadable(String, io::Error),
+    #[error("{0}: expected one page of 4096 bytes, and it has {1}")]
     NotAPage(String, usize),
-    Overrun(Overrun),
-    System(io::Error),
-}
-
-impl fmt::Display for Failure {
-    fn fmt<W: fmt::Write>(&self, f: &mut fmt::Formatter<W>) -> fmt::Result {
-        match self {
-            Failure::Usage(n) => write!(
-                f,
-                "expected a kind and a file, ringdump KIND FILE, and got {n} arguments"
-            ),
-            Failure::UnknownKind(name) => write!(
-                f,
-                "unknown kind {name}: expected block, send or receive"
-            ),
-            Failure::Unreadable(path, error) => write!(
-                f,
-                "{path}: expected one page of 4096 bytes, and it cannot be read: {error}"
-            ),
-            Failure::NotAPage(path, size) => write!(
-                f,
-                "{path}: expected one page of 4096 bytes, and it has {size}"
-            ),
-            Failure::Overrun(overrun) => write!(f, "{overrun}"),
-            Failure::System(error) => write!(f, "{error}"),
-        }
-    }
-}
-
-impl From<io::Error> for Failure {
-    fn from(e: io::Error) -> Failure {
-        Failure::System(e)
-    }
-}
-
-impl From<AllocError> for Failure {
-    fn from(e: AllocError) -> Failure {
-        Failure::System(e.into())
-    }
-}
-
-impl<T: Drop> From<AllocFailed<T>> for Failure {
-    fn from(_e: AllocFailed<T>) -> Failure {
-        Failure::System(AllocError.into())
-    }
+    #[error(transparent)]
+    Overrun(#[from] Overrun),
+    #[error(transparent)]
+    System(#[from] io::Error),
+    #[error("out of memory")]
+    Memory(#[from(alloc)] AllocError),
 }
 
 impl From<DumpFault> for Failure {
     fn from(e: DumpFault) -> Failure {
         match e {
-            DumpFault::Output(error) => Failure::System(error),
-            DumpFault::Refused(overrun) => Failure::Overrun(overrun),
+            DumpFault::Output(error) => error.into(),
+            DumpFault::Refused(overrun) => overrun.into(),
         }
     }
 }

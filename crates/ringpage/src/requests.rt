@@ -14,7 +14,7 @@ pub struct Outstanding {
 }
 
 /// A header that says more requests are outstanding than the ring has slots.
-#[derive(Clone, Copy)]
+#[derive(Clone, Copy, Debug)]
 pub struct Overrun {
     pub claimed: u32,
     pub slots: u32,
