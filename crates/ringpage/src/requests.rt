@@ -4,7 +4,7 @@ ghost use Rattle.abi.specs.Index.{Advanced};
 ghost use Rattle.ringpage.specs.Outstanding.{outstanding_on, Unanswered};
 
 use abi::{Kind, RingHeader, advance, distance};
-use std::fmt;
+use thiserror::Error;
 
 /// The `count` requests from the index `first` on.
 #[derive(Clone, Copy)]
@@ -14,7 +14,8 @@ pub struct Outstanding {
 }
 
 /// A header that says more requests are outstanding than the ring has slots.
-#[derive(Clone, Copy, Debug)]
+#[derive(Clone, Copy, Debug, Error)]
+#[error("the header claims {claimed} outstanding requests, and the ring has {slots} slots")]
 pub struct Overrun {
     pub claimed: u32,
     pub slots: u32,
@@ -44,16 +45,5 @@ impl Outstanding {
         ensures counts { Advanced self.first k result }
     {
         advance(self.first, k)
-    }
-}
-
-impl fmt::Display for Overrun {
-    fn fmt<W: fmt::Write>(&self, f: &mut fmt::Formatter<W>) -> fmt::Result {
-        let claimed = self.claimed;
-        let slots = self.slots;
-        write!(
-            f,
-            "the header claims {claimed} outstanding requests, and the ring has {slots} slots"
-        )
     }
 }
