@@ -35,67 +35,77 @@ fn answer_now(tables: &mut Tables, memory: &mut [u8], token: Consumed, miss: Mis
     Answer::AnsweredNow(miss)
 }
 
-// A request that passed its checks: its segments are mapped and the device takes it, or it is answered at once with
-// nothing left mapped.
-fn hand_over<D: Device>(
-    tables: &mut Tables,
-    memory: &mut [u8],
-    device: &mut D,
+// A request that was taken off its ring, with its connection as it was found and the ticket that is free for it. It
+// holds the consumed request, so it has to be spent.
+struct Taken<'a> {
     token: Consumed,
-    connection: &Connection,
-    request: &Request,
-    checked: &Checked,
+    connection: &'a Connection,
+    request: &'a Request,
     ticket: u8,
-) -> Answer
-    requires live { connection_at tables.old.rings token.connection ≡ Some (consumed connection.now) }
-    requires id { token.id ≡ id_of request.now }
-    requires operation { token.operation ≡ operation_of request.now }
-    requires ticket { ticket ≡ next_ticket tables.old.rings.jobs token.connection }
-    ensures { Leaves (segments_mapped D.rules token.connection (consumed connection.now) request.now (asked_by checked.now) tables.old memory.old (D.meaning device.old)) (Ok result) tables.new memory.new (D.meaning device.new) }
-{
-    let mut job = job_for(token.connection, connection.kind, checked);
-    if let Err(miss) = pin_segments(
-        &tables.frames,
-        &mut tables.grants,
-        connection.guest,
-        &checked.parts,
-        &mut job,
-    ) {
-        return answer_now(tables, memory, token, miss);
-    }
-    match device.accept(order_for(ticket, checked)) {
-        Ok(()) => {
-            token.hand_over(&mut tables.rings, ticket, &job);
-            Answer::HandedOver
-        }
-        Err(fault) => {
-            unpin_segments(&mut tables.grants, &job);
-            answer_now(tables, memory, token, RingFault::from(fault).into())
-        }
-    }
+    ghost id: { token.id ≡ id_of request.now },
+    ghost operation: { token.operation ≡ operation_of request.now },
 }
 
-// A consumed request is spent.
-fn spend<D: Device>(
-    tables: &mut Tables,
-    memory: &mut [u8],
-    device: &mut D,
-    token: Consumed,
-    connection: &Connection,
-    request: &Request,
-    ticket: u8,
-) -> Answer
-    requires live { connection_at tables.old.rings token.connection ≡ Some (consumed connection.now) }
-    requires id { token.id ≡ id_of request.now }
-    requires operation { token.operation ≡ operation_of request.now }
-    requires ticket { ticket ≡ next_ticket tables.old.rings.jobs token.connection }
-    ensures { Leaves (spent D.rules token.connection (consumed connection.now) request.now tables.old memory.old (D.meaning device.old)) (Ok result) tables.new memory.new (D.meaning device.new) }
-{
-    match check(request, device) {
-        Ok(checked) => hand_over(
-            tables, memory, device, token, connection, request, &checked, ticket,
-        ),
-        Err(miss) => answer_now(tables, memory, token, miss),
+impl<'a> Taken<'a> {
+    // The request passed its checks: its segments are mapped and the device takes it, or it is answered at once with
+    // nothing left mapped.
+    fn hand_over<D: Device>(
+        self,
+        tables: &mut Tables,
+        memory: &mut [u8],
+        device: &mut D,
+        checked: &Checked,
+    ) -> Answer
+        requires live { connection_at tables.old.rings self.token.connection ≡ Some (consumed self.connection.now) }
+        requires ticket { self.ticket ≡ next_ticket tables.old.rings.jobs self.token.connection }
+        ensures { Leaves (segments_mapped D.rules self.entry.token.connection (consumed self.entry.connection.now) self.entry.request.now (asked_by checked.now) tables.old memory.old (D.meaning device.old)) (Ok result) tables.new memory.new (D.meaning device.new) }
+    {
+        let Taken {
+            token,
+            connection,
+            request: _,
+            ticket,
+        } = self;
+        let mut job = job_for(token.connection, connection.kind, checked);
+        if let Err(miss) = pin_segments(
+            &tables.frames,
+            &mut tables.grants,
+            connection.guest,
+            &checked.parts,
+            &mut job,
+        ) {
+            return answer_now(tables, memory, token, miss);
+        }
+        match device.accept(order_for(ticket, checked)) {
+            Ok(()) => {
+                token.hand_over(&mut tables.rings, ticket, &job);
+                Answer::HandedOver
+            }
+            Err(fault) => {
+                unpin_segments(&mut tables.grants, &job);
+                answer_now(tables, memory, token, RingFault::from(fault).into())
+            }
+        }
+    }
+
+    // The request is spent.
+    fn spend<D: Device>(self, tables: &mut Tables, memory: &mut [u8], device: &mut D) -> Answer
+        requires live { connection_at tables.old.rings self.token.connection ≡ Some (consumed self.connection.now) }
+        requires ticket { self.ticket ≡ next_ticket tables.old.rings.jobs self.token.connection }
+        ensures { Leaves (spent D.rules self.entry.token.connection (consumed self.entry.connection.now) self.entry.request.now tables.old memory.old (D.meaning device.old)) (Ok result) tables.new memory.new (D.meaning device.new) }
+    {
+        match check(self.request, device) {
+            Ok(checked) => self.hand_over(tables, memory, device, &checked),
+            Err(miss) => {
+                let Taken {
+                    token,
+                    connection: _,
+                    request: _,
+                    ticket: _,
+                } = self;
+                answer_now(tables, memory, token, miss)
+            }
+        }
     }
 }
 
@@ -128,8 +138,13 @@ fn serve_live<D: Device>(
         return Ok(Answer::Idle);
     };
     let request = next_request(connection, memory);
-    let token = consume(&mut tables.rings, number, connection, &request);
-    Ok(spend(tables, memory, device, token, connection, &request, ticket))
+    let taken = Taken {
+        token: consume(&mut tables.rings, number, connection, &request),
+        connection,
+        request: &request,
+        ticket,
+    };
+    Ok(taken.spend(tables, memory, device))
 }
 
 /// Serves a connection with its device: takes one request off the ring, if there is one.

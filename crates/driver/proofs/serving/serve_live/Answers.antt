@@ -22,15 +22,13 @@ spend-requires g c =
     let k = c.args.connection.now in
     let o = c.free_ticket-ticket.result in
     let busy = is_full g.D.Device.rules (g.D.Device.meaning c.args.device.now) || has_two_jobs C.jobs n in
-    let rings = c.consume-token.ensures.rings in
-    let token = c.consume-token.ensures.token in
+    let rings = c.consume.ensures.rings in
+    let token = c.consume.ensures.token in
     let found = found_ticket o (look (is_none o) k c.args.memory.now) c.in-Some.ticket (ap Ok (sym c.in-Some.is) ∙ sym c.in_ok-ticket.was ∙ c.look.ensures) in
     let free = ticket_free busy (next_ticket C.jobs n) c.in-Some.ticket (sym c.free_ticket-ticket.ensures ∙ found.1) in
     record {
       live = ap₂ (λ (K : Rings) (t : Consumed). connection_at K t.connection) rings token
           ∙ get_or-set_same C.connections n (Some (consumed k)) None (within_some C.connections n k c.requires.live);
-      id = ap (λ (t : Consumed). t.id) token;
-      operation = ap (λ (t : Consumed). t.operation) token;
       ticket = free.1 ∙ sym (ap₂ (λ (K : Rings) (t : Consumed). next_ticket K.jobs t.connection) rings token);
     }
 
@@ -82,5 +80,5 @@ returns g c =
     leaves_by _ _ _ _ _ _
     (looked_at D n k H m x (Ok true) (ap (λ b. look b k m) (sym same) ∙ found.0)
     ∙ ap (λ q. on q (consumed_on n k H.rings) (record { connection = n; id = 0; operation = 0 })) (sym c.next_request-request.ensures)
-    ∙ ap₂ (on c.next_request-request.result) (sym c.consume-token.ensures.rings) (sym c.consume-token.ensures.token))
+    ∙ ap₂ (on c.next_request-request.result) (sym c.consume.ensures.rings) (sym c.consume.ensures.token))
     c.spend.ensures

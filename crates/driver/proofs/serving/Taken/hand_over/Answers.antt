@@ -9,7 +9,7 @@ use Rattle.backend.specs.Segments.{MappingDone, pin_all, emptied, job_for}
 use Rattle.law.specs.World.{with_grants}
 use Rattle.law.specs.Serve.{handed_over, answered_now}
 use Rattle.driver.proofs.Leaving.{fault_some, leaves_by, answered-leaves}
-use Rattle.driver.proofs.serving.hand_over.Goals as goal
+use Rattle.driver.proofs.serving.Taken.hand_over.Goals as goal
 
 pub returns-in-Err : goal.returns-in-Err
 returns-in-Err g c =
@@ -17,9 +17,9 @@ returns-in-Err g c =
     let x = g.D.Device.meaning c.args.device.now in
     let H = c.args.tables.now in
     let m = c.args.memory.now in
-    let n = c.args.token.connection in
-    let k = consumed c.args.connection.now in
-    let q = c.args.request.now in
+    let n = c.args.self.token.connection in
+    let k = consumed c.args.self.connection.now in
+    let q = c.args.self.request.now in
     let a = asked_by c.args.checked.now in
     let done : Job → MappingDone = λ j. pin_all H.frames k.guest 0 (emptied j) H.grants (listed c.args.checked.now.parts) in
     let job = c.job_for-job.ensures in
@@ -29,4 +29,4 @@ returns-in-Err g c =
     let grants = c.pin_segments.ensures.grants ∙ ap (λ j. (done j).grants) job in
     leaves_by _ _ _ _ _ _
     (ap₂ (λ (o : Option Miss) G. if_some o (handed_over D n k q a (done fresh) H m x) (λ f. answered_now D n k q f (with_grants G H) m x)) fault (sym grants))
-    (answered-leaves D n k q c.in-Err.miss _ _ _ m x _ _ _ c.requires.live c.requires.id c.requires.operation c.answer_now.ensures.answer c.answer_now.ensures.after)
+    (answered-leaves D n k q c.in-Err.miss _ _ _ m x _ _ _ c.requires.live c.args.self.id c.args.self.operation c.answer_now.ensures.answer c.answer_now.ensures.after)
