@@ -9,7 +9,7 @@ mod lines;
 mod script;
 
 use act::{Answer, act};
-use device::{Device, Direction, Order};
+use device::{Device, Order};
 use disk::Disk;
 use failure::Failure;
 use lines::{Line, Start};
@@ -31,14 +31,6 @@ const SECTOR: usize = 512;
 
 // A disk of more sectors than this is refused, so no larger memory is needed to be refused.
 const TOO_MANY: u32 = 129;
-
-// No order: what the disk's slots hold before they are used.
-const NO_ORDER: Order = Order {
-    ticket: 0,
-    direction: Direction::Inward,
-    place: 0,
-    length: 0,
-};
 
 // Prints the words of the line with single blanks between, and the arrow.
 fn echo(rt: &HostRuntime, script: &Script) -> Result<(), Failure> {
@@ -102,7 +94,7 @@ fn with_disk(rt: &HostRuntime, script: &mut Script, sectors: u32) -> Result<Opti
 {
     echo(rt, script)?;
     let mut memory = vec![in rt.alloc(); 0u8; sectors.min(TOO_MANY) as usize * SECTOR]?;
-    let mut slots = [NO_ORDER; 4];
+    let mut slots = [Order::default(); 4];
     if let Err(fault) = disk::check(memory.as_slice(), &slots) {
         println!(rt; "{}", fault.number())?;
         return wait(script);

@@ -1,17 +1,10 @@
 // Runs given as tables of calls.
 use answer::parts_of;
-use device::{Direction, Order};
+use device::Order;
 use disk::Disk;
 use host::{Call, run};
 use std::test::Fail;
 use wire::{Packet, Wire};
-
-const NONE: Order = Order {
-    ticket: 0,
-    direction: Direction::Inward,
-    place: 0,
-    length: 0,
-};
 
 // A block request: operation 0 reads; one segment; id 7; sector 0; reference 1, sectors 0 to 0 of its frame.
 const READ: [u8; 32] = [
@@ -86,7 +79,7 @@ fn withdrawn_while_in_hand(rt: HostRuntime) -> Result<(), Fail> {
     sectors[1] = 67;
     sectors[2] = 65;
     sectors[3] = 78;
-    let mut slots = [NONE; 4];
+    let mut slots = [Order::default(); 4];
     let mut disk = Disk::new(&mut sectors, &mut slots);
     let mut packets = [Packet::new(); 8];
     let mut wire = Wire::new(&mut packets);

@@ -1,9 +1,9 @@
 // The calls, made one after the other on the machine.
 use crate::failure::Failure;
 use crate::input::Script;
-use crate::setup::{Machine, NO_ORDER};
+use crate::setup::Machine;
 use answer::{Answer, HostFault, parts_of};
-use device::Device;
+use device::{Device, Order};
 use disk::Disk;
 use frame::FRAME_SIZE;
 use host::{Call, Host};
@@ -63,7 +63,7 @@ pub(crate) fn drive(
     script: &mut Script,
     machine: &mut Machine,
 ) -> Result<(), Failure> {
-    let mut orders = [NO_ORDER; 4];
+    let mut orders = [Order::default(); 4];
     let mut packets = [Packet::new(); 8];
     let mut disk = Disk::new(machine.disk.as_mut_slice(), &mut orders);
     let mut wire = Wire::new(&mut packets);

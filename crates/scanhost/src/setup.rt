@@ -2,7 +2,7 @@
 use crate::failure::Failure;
 use crate::input::Script;
 use answer::{Answer, HostFault, parts_of};
-use device::{Direction, Order};
+use device::Order;
 use frame::{FRAME_SIZE, FRAMES};
 use host::Host;
 use ring::RingFault;
@@ -18,14 +18,6 @@ const SECTORS: u32 = 128;
 const TOO_MANY_SECTORS: u32 = 129;
 
 const TOO_MANY_FRAMES: u32 = 257;
-
-/// No order: what the disk's slots hold before they are used.
-pub(crate) const NO_ORDER: Order = Order {
-    ticket: 0,
-    direction: Direction::Inward,
-    place: 0,
-    length: 0,
-};
 
 /// The host with its memory, and the bytes of the disk.
 #[derive(Drop)]
@@ -45,7 +37,7 @@ fn frames(heap: Global, count: u32) -> Result<Vec<u8>, AllocError> {
 
 // Whether the bytes make a disk.
 fn check(disk: &[u8]) -> Result<Answer, HostFault> {
-    disk::check(disk, &[NO_ORDER; 4])
+    disk::check(disk, &[Order::default(); 4])
         .map(|()| Answer::Done)
         .map_err(|fault| HostFault::InRing(RingFault::OfDevice(fault)))
 }
