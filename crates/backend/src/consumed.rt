@@ -14,11 +14,13 @@ use ring::Reply;
 use ringpage::Request;
 
 /// A request that was taken off its ring and not yet spent: what its response needs. It cannot be dropped or copied,
-/// so code that forgets to answer it or to hand it over, or that does so twice, is refused.
+/// so code that forgets to answer it or to hand it over, or that does so twice, is refused. One field is private, so
+/// only this file makes one or takes one apart.
 pub struct Consumed {
     pub connection: u8,
     pub id: u64,
     pub operation: u8,
+    sealed: (),
 }
 
 /// Takes the request off the ring of the connection with this number: it has to be answered or handed over.
@@ -29,7 +31,7 @@ pub fn consume(
     request: &Request,
 ) -> Consumed
     ensures rings { rings.new ≡ consumed_on number connection.now rings.old }
-    ensures token { result ≡ record { connection = number; id = id_of request.now; operation = operation_of request.now } }
+    ensures token { result ≡ record { connection = number; id = id_of request.now; operation = operation_of request.now; sealed = tt } }
 {
     let mut connection = *connection;
     connection.req_cons = advance(connection.req_cons, 1);
@@ -38,6 +40,7 @@ pub fn consume(
         connection: number,
         id: id_of(request),
         operation: operation_of(request),
+        sealed: (),
     }
 }
 
@@ -50,6 +53,7 @@ impl Consumed {
             connection,
             id,
             operation,
+            sealed: (),
         } = self;
         respond(
             rings,
@@ -72,6 +76,7 @@ impl Consumed {
             connection: _,
             id: _,
             operation: _,
+            sealed: (),
         } = self;
         rings.add_job(ticket, job);
     }
