@@ -3,21 +3,23 @@ use Rattle.std.proofs.Common.{ℕ, List, [], ◌∷◌, ◌++◌, refl, ap}
 use Rattle.device.specs.Meaning.{Rules}
 use Rattle.law.specs.World.{World}
 use Rattle.law.specs.Call.{Call, Reply}
-use Rattle.law.specs.Run.{Starts, Reaches, Lawful, Kept, Ran, calls_of}
+use Rattle.law.specs.Run.{Starts, Reaches, Lawful, Kept, Ran, AtOnce, calls_of}
 use Rattle.law.proofs.Kept.{at_once}
 
 module _ {M N : Type 0} (R : Rules M) (S : Rules N) (pick : ℕ → ℕ) where
   -- no call was made yet
-  pub ran_none : (w : World M N) → Starts R S w → Ran R S pick [] w
-  unfolding Reaches Lawful calls_of
-  ran_none w starts = record { history = []; made = refl; reached = (w, (starts, at_once R S w)); lawful = tt }
+  pub ran_none : (w : World M N) → Starts R S w → Ran R S pick w [] w
+  unfolding Reaches Lawful AtOnce calls_of
+  ran_none w starts = record { history = []; made = refl; starts = starts; at_once = refl; reached = (w, (starts, at_once R S w)); lawful = tt }
 
   -- one call more
-  pub ran_more : (cs : List Call) (w : World M N) (c : Call) (r : Reply) (v : World M N) → Ran R S pick cs w → Kept R S pick w c r v → Ran R S pick (cs ++ c ∷ []) v
-  unfolding calls_of
-  ran_more cs w c r v ran step = record {
+  pub ran_more : (u : World M N) (cs : List Call) (w : World M N) (c : Call) (r : Reply) (v : World M N) → Ran R S pick u cs w → Kept R S pick w c r v → Ran R S pick u (cs ++ c ∷ []) v
+  unfolding calls_of AtOnce
+  ran_more u cs w c r v ran step = record {
     history = record { found = w; call = c; answered = r; left = v } ∷ ran.history;
     made = ap (λ (xs : List Call). xs ++ c ∷ []) ran.made;
+    starts = ran.starts;
+    at_once = (ran.at_once, refl);
     reached = step.runs ran.history ran.reached;
     lawful = step.lawful ran.history ran.reached;
   }

@@ -5,10 +5,15 @@ use Rattle.answer.specs.declared.fault.HostFault.{HostFault}
 use Rattle.answer.specs.declared.reply.Answer.{Answer}
 use Rattle.law.specs.World.{World}
 use Rattle.law.specs.Call.{Reply}
+use Rattle.law.specs.Step.{new_host}
 use Rattle.host.specs.declared.state.Host.{Host}
 
 abbrev pub seen : {M N : Type 0} → Host → List ℕ → M → N → World M N
 seen h m x y = record { host = h.tables; memory = m; bay0 = x; bay1 = y }
+
+-- a host of n frames that has just started over this memory
+abbrev pub fresh : {M N : Type 0} → ℕ → List ℕ → M → N → World M N
+fresh n m x y = record { host = new_host n; memory = m; bay0 = x; bay1 = y }
 
 -- what a load gives back: its result, and where that is no refusal the bytes of the buffer
 abbrev pub told_with : Result Answer HostFault → List ℕ → Reply

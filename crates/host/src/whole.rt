@@ -5,7 +5,7 @@ ghost use Rattle.law.specs.Run.{Ran};
 ghost use Rattle.law.specs.Step.{started};
 ghost use Rattle.host.specs.Calls.{call_of};
 ghost use Rattle.table_calls.specs.Parts.{allowed};
-ghost use Rattle.host.specs.View.{seen};
+ghost use Rattle.host.specs.View.{fresh, seen};
 
 use crate::call::Call;
 use crate::state::Host;
@@ -26,7 +26,8 @@ pub fn run<B: Device, N: Device>(
     ensures lawful { IfOk result (λ h.
         B.Device.rules.orders (B.Device.meaning block.old) ≡ []
         → N.Device.rules.orders (N.Device.meaning net.old) ≡ []
-        → Ran B.Device.rules N.Device.rules pick (map call_of calls.now)
+        → Ran B.Device.rules N.Device.rules pick
+        (fresh frames memory.old (B.Device.meaning block.old) (N.Device.meaning net.old)) (map call_of calls.now)
         (seen h memory.new (B.Device.meaning block.new) (N.Device.meaning net.new))) }
 {
     let mut host = Host::start(frames, memory)?;

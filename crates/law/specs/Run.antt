@@ -3,7 +3,7 @@ use Rattle.std.specs.Prelude.{◌≡◌, ℕ, List, [], ◌∷◌, ◌++◌, len
 use Rattle.device.specs.Meaning.{Rules}
 use Rattle.law.specs.World.{World}
 use Rattle.law.specs.Call.{Call, Reply}
-use Rattle.law.specs.Step.{Ends, step, started}
+use Rattle.law.specs.Step.{step, started}
 use Rattle.law.specs.Account.{Account, nothing_yet, noted}
 use Rattle.law.specs.Keeps.{Step, Keeps}
 
@@ -59,16 +59,16 @@ module _ {M N : Type 0} (R : Rules M) (S : Rules N) (pick : ℕ → ℕ) where
   calls_of [] = []
   calls_of (s ∷ h) = calls_of h ++ (s.call ∷ [])
 
-  -- the calls cs, made one after the other of a new host, have led to w, and lawfully
-  pub record Ran (cs : List Call) (w : World M N) : Type 0 where
+  -- the steps h have led from the world u to w, and nothing came between: not before the first, and not behind the last
+  unfoldable pub AtOnce : World M N → History M N → World M N → Type 0
+  AtOnce u [] w = w ≡ u
+  AtOnce u (s ∷ h) w = AtOnce u h s.found × (w ≡ s.left)
+
+  -- the calls cs, made one after the other from u on, where a host has just started, have led to w, and lawfully
+  pub record Ran (u : World M N) (cs : List Call) (w : World M N) : Type 0 where
     pub history : History M N
     pub made : calls_of history ≡ cs
+    pub starts : Starts R S u
+    pub at_once : AtOnce u history w
     pub reached : Reaches history w
     pub lawful : Lawful history
-
-  -- the run of the calls cs from the world w on, after the steps h
-  unfoldable pub run_on : History M N → World M N → List Call → History M N
-  run_on h w [] = h
-  run_on h w (c ∷ cs) =
-      let e : Ends M N = step R S pick w c in
-      run_on (record { found = w; call = c; answered = e.answer; left = e.world } ∷ h) e.world cs

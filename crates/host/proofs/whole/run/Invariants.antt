@@ -2,7 +2,7 @@ use Rattle.std.proofs.Common.{◌≡◌, [], map, take}
 use Rattle.event.specs.Pending.{pick}
 use Rattle.law.specs.Run.{Ran}
 use Rattle.host.specs.Calls.{call_of}
-use Rattle.host.specs.View.{seen}
+use Rattle.host.specs.View.{fresh, seen}
 use Rattle.host.proofs.whole.run.Given as goal
 
 abbrev pub invariant-loop-call : goal.invariant-loop-call
@@ -10,4 +10,4 @@ invariant-loop-call g l =
     let b = g.B.Device in
     let n = g.N.Device in
     b.rules.orders (b.meaning l.initial.block) ≡ [] → n.rules.orders (n.meaning l.initial.net) ≡ []
-    → Ran b.rules n.rules pick (map call_of (take l.call-index l.calls)) (seen l.host l.memory (b.meaning l.block) (n.meaning l.net))
+    → Ran b.rules n.rules pick (fresh l.initial.frames l.initial.memory (b.meaning l.initial.block) (n.meaning l.initial.net)) (map call_of (take l.call-index l.calls)) (seen l.host l.memory (b.meaning l.block) (n.meaning l.net))
