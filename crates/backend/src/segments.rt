@@ -12,15 +12,9 @@ use device::{Direction, Order, Part};
 use frame::{Domain, FRAME_SIZE, Frames};
 use grant::{GrantFault, Grants};
 use request::{Checked, Miss, Parts, Span};
-use ring::RingFault;
 use rules::front;
 
 const BACK_END: Domain = Domain { id: 0 };
-
-const NO_PART: Part = Part {
-    start: 0,
-    length: 0,
-};
 
 /// The job that a request of a connection becomes, with nothing mapped yet.
 pub fn job_for(number: u8, kind: Kind, checked: &Checked) -> Job
@@ -34,7 +28,7 @@ pub fn job_for(number: u8, kind: Kind, checked: &Checked) -> Job
         operation: checked.operation,
         count: 0,
         handles: [0; SEGMENTS],
-        parts: [NO_PART; SEGMENTS],
+        parts: [Part::default(); SEGMENTS],
     }
 }
 
@@ -120,7 +114,7 @@ pub fn pin_segments(
         if let Err(fault) = pin_segment(frames, grants, guest, span, job) {
             unpin_segments(grants, job);
             return Err(Miss {
-                fault: RingFault::OfGrant(fault),
+                fault: fault.into(),
                 place: job.count,
             });
         }
