@@ -1,5 +1,6 @@
 // Domain 0 maps what a request names, and unmaps it again.
 ghost use Rattle.std.specs.Prelude.{◌≡◌, ◌<◌};
+ghost use Rattle.grant.specs.Map.{mode_number};
 ghost use Rattle.request.specs.Checked.{asked_by};
 ghost use Rattle.request.specs.Content.{listed};
 ghost use Rattle.connection.specs.Tables.{handles_of};
@@ -10,7 +11,7 @@ use blkif::SEGMENTS;
 use connection::Job;
 use device::{Direction, Order, Part};
 use frame::{Domain, FRAME_SIZE, Frames};
-use grant::{GrantFault, Grants};
+use grant::{GrantFault, Grants, Mode};
 use request::{Checked, Miss, Parts, Span};
 use rules::front;
 
@@ -45,12 +46,12 @@ pub fn order_for(ticket: u8, checked: &Checked) -> Order
 }
 
 // Bytes that go inward are written into the guest's frames.
-fn mode_for(direction: Direction) -> u32
-    ensures { result ≡ mode_for direction }
+fn mode_for(direction: Direction) -> Mode
+    ensures { mode_number result ≡ mode_for direction }
 {
     match direction {
-        Direction::Inward => 1,
-        Direction::Outward => 0,
+        Direction::Inward => Mode::Write,
+        Direction::Outward => Mode::Read,
     }
 }
 
@@ -77,7 +78,7 @@ fn pin_segment(
     ensures { SegmentPinned frames.now guest span.now grants.old job.old result grants.new job.new }
 {
     let mode = mode_for(job.direction);
-    let granted = grants.may_map(frames, BACK_END, u32::from(guest), span.reference, mode)?;
+    let granted = grants.may_map_for(frames, BACK_END, u32::from(guest), span.reference, mode)?;
     grants.pin(BACK_END, granted);
     let place = job.count as usize;
     job.handles[place] = granted.handle;
