@@ -20,10 +20,12 @@ fn may_send(tables: &Tables, guest: Domain, port: u32) -> Result<Port, EventFaul
     ensures port { IfOk result (λ p. p.number ≡ port) }
 {
     let number = port.checked_sub(1).ok_or(EventFault::BadPort)?;
-    match tables.rings.connection(number) {
-        Some(connection) if connection.guest == guest.id => Port::try_from(port),
-        _ => Err(EventFault::BadPort),
-    }
+    tables
+        .rings
+        .connection(number)
+        .filter(|connection| connection.guest == guest.id)
+        .ok_or(EventFault::BadPort)?;
+    Port::try_from(port)
 }
 
 /// A guest marks its port pending at domain 0.
