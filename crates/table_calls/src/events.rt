@@ -46,7 +46,6 @@ pub fn next(tables: &mut Tables, memory: &[u8], caller: u32) -> Result<Answer, H
     let Some(port) = tables.events.pick(domain) else {
         return Ok(Answer::Port(0));
     };
-    let port = Port { number: port as u8 };
     tables.events.drop_mark(domain, port);
     Ok(Answer::Port(port.number))
 }
