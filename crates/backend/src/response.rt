@@ -19,6 +19,7 @@ pub fn port_of(number: ConnectionNumber) -> Port
 }
 
 // The guest's port becomes pending. A number past the domains has no word to mark.
+#[tactic(auto, using(std::proofs::lemmas::List::set_past))]
 fn tell(events: &mut Events, guest: u8, port: Port)
     ensures { events.new ≡ marked guest port.number events.old }
 {

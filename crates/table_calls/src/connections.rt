@@ -101,6 +101,7 @@ fn may_disconnect(tables: &Tables, number: u32) -> Result<(ConnectionNumber, Con
 }
 
 // The guest's port is pending no more. A number past the domains has no word.
+#[tactic(auto, using(std::proofs::lemmas::List::set_past))]
 fn drop_end(events: &mut Events, guest: u8, port: Port)
     ensures { events.new ≡ dropped guest port.number events.old }
 {
