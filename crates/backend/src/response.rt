@@ -1,15 +1,25 @@
 // Responses: into the slot, the index to the page, and word to the guest where it asked for that.
 ghost use Rattle.std.specs.Prelude.{◌≡◌};
 ghost use Rattle.event.specs.Pending.{marked};
-ghost use Rattle.backend.specs.Respond.{Responded};
+ghost use Rattle.backend.specs.Respond.{Responded, port_of};
 
 use abi::advance;
-use connection::Rings;
+use connection::{ConnectionNumber, Rings};
 use event::{Events, Port};
 use frame::Domain;
 use ring::{Reply, Word, put_response, put_word, word_or_zero};
 
+/// The port of a connection, at either end.
+pub fn port_of(number: ConnectionNumber) -> Port
+    ensures { result.number ≡ port_of number.number }
+{
+    Port {
+        number: number.number + 1,
+    }
+}
+
 // The guest's port becomes pending. A number past the domains has no word to mark.
+#[tactic(auto, using(std::proofs::lemmas::List::set_past))]
 fn tell(events: &mut Events, guest: u8, port: Port)
     ensures { events.new ≡ marked guest port.number events.old }
 {
@@ -24,7 +34,7 @@ fn tell(events: &mut Events, guest: u8, port: Port)
 pub fn respond(rings: &mut Rings, events: &mut Events, memory: &mut [u8], number: u8, reply: Reply)
     ensures { Responded number reply.id reply.operation reply.status rings.old events.old memory.old rings.new events.new memory.new }
 {
-    let Some(mut connection) = rings.connection(u32::from(number)) else {
+    let Some((number, mut connection)) = rings.live(u32::from(number)) else {
         return;
     };
     put_response(
@@ -36,9 +46,9 @@ pub fn respond(rings: &mut Rings, events: &mut Events, memory: &mut [u8], number
     );
     connection.rsp_prod = advance(connection.rsp_prod, 1);
     put_word(memory, connection.page, Word::RspProd, connection.rsp_prod);
-    rings.open(u32::from(number), connection);
+    rings.open(u32::from(number.number), connection);
     let awaited = word_or_zero(memory, connection.page, Word::RspEvent);
     if connection.rsp_prod == awaited {
-        tell(events, connection.guest, Port { number: number + 1 });
+        tell(events, connection.guest, port_of(number));
     }
 }

@@ -1,5 +1,6 @@
 // Domain 0 maps what a request names, and unmaps it again.
 ghost use Rattle.std.specs.Prelude.{◌≡◌, ◌<◌};
+ghost use Rattle.grant.specs.Map.{mode_number};
 ghost use Rattle.request.specs.Checked.{asked_by};
 ghost use Rattle.request.specs.Content.{listed};
 ghost use Rattle.connection.specs.Tables.{handles_of};
@@ -10,17 +11,11 @@ use blkif::SEGMENTS;
 use connection::Job;
 use device::{Direction, Order, Part};
 use frame::{Domain, FRAME_SIZE, Frames};
-use grant::{GrantFault, Grants};
+use grant::{GrantFault, Grants, Mode};
 use request::{Checked, Miss, Parts, Span};
-use ring::RingFault;
 use rules::front;
 
 const BACK_END: Domain = Domain { id: 0 };
-
-const NO_PART: Part = Part {
-    start: 0,
-    length: 0,
-};
 
 /// The job that a request of a connection becomes, with nothing mapped yet.
 pub fn job_for(number: u8, kind: Kind, checked: &Checked) -> Job
@@ -34,7 +29,7 @@ pub fn job_for(number: u8, kind: Kind, checked: &Checked) -> Job
         operation: checked.operation,
         count: 0,
         handles: [0; SEGMENTS],
-        parts: [NO_PART; SEGMENTS],
+        parts: [Part::default(); SEGMENTS],
     }
 }
 
@@ -51,12 +46,12 @@ pub fn order_for(ticket: u8, checked: &Checked) -> Order
 }
 
 // Bytes that go inward are written into the guest's frames.
-fn mode_for(direction: Direction) -> u32
-    ensures { result ≡ mode_for direction }
+fn mode_for(direction: Direction) -> Mode
+    ensures { mode_number result ≡ mode_for direction }
 {
     match direction {
-        Direction::Inward => 1,
-        Direction::Outward => 0,
+        Direction::Inward => Mode::Write,
+        Direction::Outward => Mode::Read,
     }
 }
 
@@ -83,7 +78,7 @@ fn pin_segment(
     ensures { SegmentPinned frames.now guest span.now grants.old job.old result grants.new job.new }
 {
     let mode = mode_for(job.direction);
-    let granted = grants.may_map(frames, BACK_END, u32::from(guest), span.reference, mode)?;
+    let granted = grants.may_map_for(frames, BACK_END, u32::from(guest), span.reference, mode)?;
     grants.pin(BACK_END, granted);
     let place = job.count as usize;
     job.handles[place] = granted.handle;
@@ -120,7 +115,7 @@ pub fn pin_segments(
         if let Err(fault) = pin_segment(frames, grants, guest, span, job) {
             unpin_segments(grants, job);
             return Err(Miss {
-                fault: RingFault::OfGrant(fault),
+                fault: fault.into(),
                 place: job.count,
             });
         }

@@ -124,7 +124,7 @@ fn responses(rt: HostRuntime) -> Result<(), Fail> {
         status: 60,
     };
     respond(&mut rings, &mut events, &mut memory, 2, reply);
-    assert_eq!(rt; events.pick(three), Some(3));
+    assert_eq!(rt; events.pick(three), Some(port));
     assert_eq!(rt; word_or_zero(&memory, 1, Word::RspProd), 5);
     let mut response = [9u8; 8];
     assert!(rt; frame::read_part(&memory, 1, 96, &mut response).is_ok());

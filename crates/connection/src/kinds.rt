@@ -5,14 +5,14 @@ ghost use Rattle.connection.specs.Tables.{bay_number, bay_of};
 use abi::Kind;
 
 /// The two places for devices: the block device and the network device.
-#[derive(Clone, Copy, PartialEq, Eq)]
+#[derive(Clone, Copy, Debug, PartialEq, Eq)]
 pub enum Bay {
     BlockBay,
     NetBay,
 }
 
 /// No bay has this number.
-#[derive(Clone, Copy)]
+#[derive(Clone, Copy, Debug, PartialEq, Eq)]
 pub struct NoBay;
 
 /// The bay that has this number, if one has.

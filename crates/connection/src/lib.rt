@@ -2,8 +2,10 @@
 #![tactic(auto)]
 
 mod kinds;
+mod number;
 mod rings;
 mod tables;
 
 pub use kinds::{Bay, NoBay, bay_of};
+pub use number::{ConnectionNumber, NoSuchConnection};
 pub use tables::{CONNECTIONS, Connection, JOBS, Job, Rings};

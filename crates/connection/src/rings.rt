@@ -5,6 +5,7 @@ ghost use Rattle.std.specs.Option.{option_map};
 ghost use Rattle.connection.specs.Tables.{new_rings, connection_at, job_at, in_bay, free_connection, free_ticket, has_jobs, with_connection, with_job};
 
 use crate::kinds::{Bay, bay_of};
+use crate::number::ConnectionNumber;
 use crate::tables::{CONNECTIONS, Connection, JOBS, Job, Rings};
 use rules::{at, first_free, put};
 
@@ -27,12 +28,26 @@ impl Rings {
         at(&self.connections, number as usize)
     }
 
-    /// The lowest number under which no connection is live.
-    pub fn free_connection(&self) -> Option<usize>
-        ensures value { result ≡ free_connection self.now.connections }
-        ensures within { IfSome result (λ c. c < 6) }
+    /// The connection with this number, if it is live, and its number.
+    pub fn live(&self, number: u32) -> Option<(ConnectionNumber, Connection)>
+        ensures value { option_map (λ l. l.1) result ≡ connection_at self.now number }
+        ensures number { IfSome result (λ l. l.0.number ≡ number) }
     {
-        first_free(&self.connections)
+        let connection = self.connection(number)?;
+        let number = ConnectionNumber {
+            number: number as u8,
+        };
+        Some((number, connection))
+    }
+
+    /// The lowest number under which no connection is live.
+    pub fn free_connection(&self) -> Option<ConnectionNumber>
+        ensures { option_map (λ n. n.number) result ≡ free_connection self.now.connections }
+    {
+        let number = first_free(&self.connections)?;
+        Some(ConnectionNumber {
+            number: number as u8,
+        })
     }
 
     // Whether a job is in hand under this ticket.
@@ -47,10 +62,7 @@ impl Rings {
         ensures value { result ≡ free_ticket self.now.jobs number }
         ensures within { IfSome result (λ t. t < 12) }
     {
-        if number as usize >= CONNECTIONS {
-            return None;
-        }
-        let first = 2 * number as u8;
+        let first = 2 * ConnectionNumber::try_from(number).ok()?.number;
         [first, first + 1]
             .into_iter()
             .find(|ticket| !self.has_job(*ticket as usize))

@@ -6,7 +6,7 @@ ghost use Rattle.device.specs.Transfer.{part_rules, end_of, PartFilled, PartDrai
 use crate::{Device, DeviceFault};
 
 /// A part of a memory.
-#[derive(Clone, Copy, Debug, PartialEq, Eq)]
+#[derive(Clone, Copy, Debug, Default, PartialEq, Eq)]
 pub struct Part {
     pub start: u32,
     pub length: u32,

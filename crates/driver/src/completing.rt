@@ -9,6 +9,7 @@ use device::Device;
 use ring::{Reply, RingFault};
 
 /// Completes the first ready job of a bay's device: its bytes are moved, and its request is answered.
+#[tactic(auto, unfolding(law::specs::Complete::completed))]
 pub fn complete<D: Device>(
     tables: &mut Tables,
     memory: &mut [u8],

@@ -1,5 +1,5 @@
 // serve: a request is taken off its ring, and either handed to the device or answered at once.
-ghost use Rattle.std.specs.Prelude.{◌≡◌, ◌<◌, ◌||◌, if◌then◌else◌};
+ghost use Rattle.std.specs.Prelude.{◌≡◌, ◌||◌, if◌then◌else◌};
 ghost use Rattle.device.specs.Meaning.{is_full};
 ghost use Rattle.request.specs.Checked.{asked_by};
 ghost use Rattle.request.specs.Content.{id_of, operation_of};
@@ -15,7 +15,7 @@ use backend::{
     Consumed, Tables, ask_event, consume, job_for, look, next_request, order_for, pin_segments,
     unpin_segments,
 };
-use connection::{Connection, Rings};
+use connection::{Connection, ConnectionNumber, Rings};
 use device::Device;
 use request::{Checked, Miss, check};
 use ring::RingFault;
@@ -110,14 +110,13 @@ impl<'a> Taken<'a> {
 }
 
 // The ticket for a connection's next job, unless its back end is busy: the device is full, or has two jobs of it.
-fn free_ticket<D: Device>(device: &D, rings: &Rings, number: u8) -> Option<u8>
-    requires { number < 6 }
-    ensures { result ≡ (if is_full D.rules (D.meaning device.now) || has_two_jobs rings.now.jobs number then None else Some (next_ticket rings.now.jobs number)) }
+fn free_ticket<D: Device>(device: &D, rings: &Rings, number: ConnectionNumber) -> Option<u8>
+    ensures { result ≡ (if is_full D.rules (D.meaning device.now) || has_two_jobs rings.now.jobs number.number then None else Some (next_ticket rings.now.jobs number.number)) }
 {
     if device.full() {
         return None;
     }
-    rings.next_ticket(u32::from(number))
+    rings.next_ticket(u32::from(number.number))
 }
 
 // A live connection is looked at, and its next request spent.
@@ -125,12 +124,11 @@ fn serve_live<D: Device>(
     tables: &mut Tables,
     memory: &mut [u8],
     device: &mut D,
-    number: u8,
+    number: ConnectionNumber,
     connection: &Connection,
 ) -> Result<Answer, RingFault>
-    requires live { connection_at tables.old.rings number ≡ Some connection.now }
-    requires within { number < 6 }
-    ensures { Leaves (served_on D.rules number connection.now tables.old memory.old (D.meaning device.old)) result tables.new memory.new (D.meaning device.new) }
+    requires { connection_at tables.old.rings number.number ≡ Some connection.now }
+    ensures { Leaves (served_on D.rules number.number connection.now tables.old memory.old (D.meaning device.old)) result tables.new memory.new (D.meaning device.new) }
 {
     let ticket = free_ticket(device, &tables.rings, number);
     let Some(ticket) = look(connection, memory, ticket)? else {
@@ -139,7 +137,7 @@ fn serve_live<D: Device>(
     };
     let request = next_request(connection, memory);
     let taken = Taken {
-        token: consume(&mut tables.rings, number, connection, &request),
+        token: consume(&mut tables.rings, number.number, connection, &request),
         connection,
         request: &request,
         ticket,
@@ -148,6 +146,7 @@ fn serve_live<D: Device>(
 }
 
 /// Serves a connection with its device: takes one request off the ring, if there is one.
+#[tactic(auto, unfolding(law::specs::Serve::served))]
 pub fn serve<D: Device>(
     tables: &mut Tables,
     memory: &mut [u8],
@@ -156,6 +155,6 @@ pub fn serve<D: Device>(
 ) -> Result<Answer, RingFault>
     ensures { Leaves (served D.rules number tables.old memory.old (D.meaning device.old)) result tables.new memory.new (D.meaning device.new) }
 {
-    let connection = tables.rings.connection(number).ok_or(RingFault::NotLive)?;
-    serve_live(tables, memory, device, number as u8, &connection)
+    let (number, connection) = tables.rings.live(number).ok_or(RingFault::NotLive)?;
+    serve_live(tables, memory, device, number, &connection)
 }

@@ -1,5 +1,6 @@
 // The pending ports of each domain.
 ghost use Rattle.std.specs.Prelude.{◌≡◌};
+ghost use Rattle.std.specs.Option.{option_map};
 ghost use Rattle.event.specs.Pending.{new_events, word, marked, dropped, Only, picked, Picked};
 
 use crate::port::Port;
@@ -36,11 +37,12 @@ impl Events {
     }
 
     /// A pending port of the domain, or none; its word alone decides which.
-    pub fn pick(&self, domain: Domain) -> Option<u32>
-        ensures value { result ≡ picked (word self.now domain.id) }
-        ensures pending { Picked (word self.now domain.id) result }
+    pub fn pick(&self, domain: Domain) -> Option<Port>
+        ensures value { option_map (λ p. p.number) result ≡ picked (word self.now domain.id) }
+        ensures pending { Picked (word self.now domain.id) (option_map (λ p. p.number) result) }
     {
-        let word = self.pending[domain.id as usize];
-        (word != 0).then_some(word.trailing_zeros())
+        // An empty word has 32 of them, and 32 is no port.
+        let zeros = self.pending[domain.id as usize].trailing_zeros();
+        Port::try_from(zeros).ok()
     }
 }

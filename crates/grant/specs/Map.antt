@@ -24,6 +24,10 @@ names e d = permits e.flags && e.domid == d
 abbrev pub mode_of : ℕ → Mode
 mode_of n = cond (n == 1) Write Read
 
+abbrev pub mode_number : Mode → ℕ
+mode_number Read = 0
+mode_number Write = 1
+
 -- when a number is no mode, and when it is no other domain than d
 abbrev pub mode_rules : ℕ → List (Rule GrantFault)
 mode_rules mode = (nat_lt 1 mode, BadMode) ∷ []

@@ -3,7 +3,7 @@ ghost use Rattle.std.specs.Prelude.{◌≡◌, ◌<◌, ◌≤◌, ◌^◌, leng
 ghost use Rattle.rules.specs.Refusal.{refuse_first, granting};
 ghost use Rattle.std.specs.List.{list_any};
 ghost use Rattle.grant.specs.Tables.{place, entry_at, handles_of, lowest, in_use, pinned, weight, pins, of_frame, maps_frame, writes_frame};
-ghost use Rattle.grant.specs.Map.{owner_rules, entry_says, map_verdict, grant_of, unmap_verdict};
+ghost use Rattle.grant.specs.Map.{mode_number, owner_rules, entry_says, map_verdict, grant_of, unmap_verdict};
 
 use crate::fault::GrantFault;
 use crate::mapping::Granted;
@@ -117,7 +117,7 @@ impl Grants {
         Ok(entry)
     }
 
-    /// Whether the domain may map what the owner's entry grants; the entry is read once.
+    /// Whether the domain may map what the owner's entry grants; the mode is the number that its caller wrote.
     pub fn may_map(
         &self,
         frames: &Frames,
@@ -129,6 +129,20 @@ impl Grants {
         ensures { granting grant_of result ≡ map_verdict frames.now self.now domain.id owner reference mode }
     {
         let mode = Mode::try_from(mode)?;
+        self.may_map_for(frames, domain, owner, reference, mode)
+    }
+
+    /// The same over a mode; the entry is read once.
+    pub fn may_map_for(
+        &self,
+        frames: &Frames,
+        domain: Domain,
+        owner: u32,
+        reference: u32,
+        mode: Mode,
+    ) -> Result<Granted, GrantFault>
+        ensures { granting grant_of result ≡ map_verdict frames.now self.now domain.id owner reference (mode_number mode) }
+    {
         let owner = other_domain(domain, owner)?;
         let handle = self.lowest_free(domain).ok_or(GrantFault::NoHandle)?;
         let reference = Reference::try_from(reference)?;

@@ -3,8 +3,6 @@ ghost use Rattle.queue.specs.Order.{FirstInFirstOut};
 
 /// Names the law of the line: whatever is pushed and popped, what has left and what is still held
 /// is, in order, what was taken in.
-pub fn first_in_first_out<T: Copy>() -> u8
+pub fn first_in_first_out<T: Copy>()
     ensures { FirstInFirstOut T }
-{
-    0
-}
+{}

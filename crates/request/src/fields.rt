@@ -38,13 +38,12 @@ fn check_segments(segments: &[Segment]) -> Result<(), Miss>
     requires { length segments.now ≤ 11 }
     ensures { result ≡ segment_verdict 0 segments.now }
 {
-    match first_bad(segments) {
-        Some(place) => Err(Miss {
+    first_bad(segments).map_or(Ok(()), |place| {
+        Err(Miss {
             fault: RingFault::BadSegment,
             place: place as u8,
-        }),
-        None => Ok(()),
-    }
+        })
+    })
 }
 
 /// Whether the request's own fields are in order.

@@ -35,8 +35,8 @@ pub fn guest(tables: &Tables, memory: &[u8], caller: u32) -> Result<Domain, Host
     ensures size { OnOk result (length memory.now ≡ 4096 * tables.now.frames.count) }
 {
     fitting(tables, memory)?;
-    match Domain::try_from(caller) {
-        Ok(domain) if domain.id != 0 => Ok(domain),
-        _ => Err(HostFault::BadCaller),
-    }
+    Domain::try_from(caller)
+        .ok()
+        .filter(|domain| domain.id != 0)
+        .ok_or(HostFault::BadCaller)
 }

@@ -1,5 +1,5 @@
 // Connections: made by guests, ended by domain 0.
-ghost use Rattle.std.specs.Prelude.{◌≡◌, ◌<◌, IfOk, OnOk};
+ghost use Rattle.std.specs.Prelude.{◌≡◌, IfOk};
 ghost use Rattle.std.specs.Option.{unwrap_or};
 ghost use Rattle.abi.specs.declared.page.Kind.TheVariants.{Block};
 ghost use Rattle.rules.specs.Refusal.{granting};
@@ -15,18 +15,18 @@ ghost use Rattle.table_calls.specs.Parts.{GrantedBy};
 use crate::callers::{fitting, guest};
 use abi::Kind;
 use answer::{Answer, HostFault};
-use backend::Tables;
-use connection::Connection;
+use backend::{Tables, port_of};
+use connection::{Connection, ConnectionNumber};
 use event::{Events, Port};
 use frame::Domain;
-use grant::Granted;
+use grant::{Granted, Mode};
 use ring::{RingFault, put_fresh_header};
 
 // Which kind of connection, under which number, and domain 0's mapping of the ring page.
 #[derive(Clone, Copy)]
 struct Offer {
     kind: Kind,
-    number: u8,
+    number: ConnectionNumber,
     granted: Granted,
 }
 
@@ -39,23 +39,23 @@ fn may_connect(
 ) -> Result<Offer, RingFault>
     ensures answer { granting (λ o. grant_of o.granted) result ≡ connect_verdict tables.now guest.id kind reference }
     ensures kind { IfOk result (λ o. o.kind ≡ unwrap_or (kind_numbered kind) Block) }
-    ensures number { IfOk result (λ o. o.number ≡ new_number tables.now) }
+    ensures number { IfOk result (λ o. o.number.number ≡ new_number tables.now) }
 {
     let kind = Kind::try_from(kind).map_err(|_| RingFault::BadKind)?;
     let number = tables
         .rings
         .free_connection()
         .ok_or(RingFault::NoConnection)?;
-    let granted = tables.grants.may_map(
+    let granted = tables.grants.may_map_for(
         &tables.frames,
         Domain { id: 0 },
         u32::from(guest.id),
         reference,
-        1,
+        Mode::Write,
     )?;
     Ok(Offer {
         kind,
-        number: number as u8,
+        number,
         granted,
     })
 }
@@ -83,23 +83,25 @@ pub fn connect(
         req_cons: 0,
         rsp_prod: 0,
     };
-    tables.rings.open(u32::from(offer.number), connection);
-    Ok(Answer::Connected(offer.number))
+    let number = offer.number.number;
+    tables.rings.open(u32::from(number), connection);
+    Ok(Answer::Connected(number))
 }
 
-// The live connection that a disconnect would end.
-fn may_disconnect(tables: &Tables, number: u32) -> Result<Connection, RingFault>
-    ensures answer { result ≡ disconnect_verdict tables.now number }
-    ensures within { OnOk result (number < 6) }
+// The live connection that a disconnect would end, and its number.
+fn may_disconnect(tables: &Tables, number: u32) -> Result<(ConnectionNumber, Connection), RingFault>
+    ensures answer { granting (λ l. l.1) result ≡ disconnect_verdict tables.now number }
+    ensures number { IfOk result (λ l. l.0.number ≡ number) }
 {
-    let connection = tables.rings.connection(number).ok_or(RingFault::NotLive)?;
+    let live = tables.rings.live(number).ok_or(RingFault::NotLive)?;
     if tables.rings.has_jobs(number) {
         return Err(RingFault::HasJobs);
     }
-    Ok(connection)
+    Ok(live)
 }
 
 // The guest's port is pending no more. A number past the domains has no word.
+#[tactic(auto, using(std::proofs::lemmas::List::set_past))]
 fn drop_end(events: &mut Events, guest: u8, port: Port)
     ensures { events.new ≡ dropped guest port.number events.old }
 {
@@ -114,10 +116,8 @@ pub fn disconnect(tables: &mut Tables, memory: &[u8], number: u32) -> Result<Ans
     ensures { GrantedBy (memory_rules tables.old memory.now) InRing (disconnect_verdict tables.old number) (λ _. Done) tables.old memory.now (λ k. disconnected number k tables.old) (λ _. memory.now) result tables.new memory.now }
 {
     fitting(tables, memory)?;
-    let connection = may_disconnect(tables, number)?;
-    let port = Port {
-        number: number as u8 + 1,
-    };
+    let (live, connection) = may_disconnect(tables, number)?;
+    let port = port_of(live);
     tables
         .grants
         .unpin(Domain { id: 0 }, u32::from(connection.handle));

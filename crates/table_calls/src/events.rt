@@ -20,10 +20,12 @@ fn may_send(tables: &Tables, guest: Domain, port: u32) -> Result<Port, EventFaul
     ensures port { IfOk result (λ p. p.number ≡ port) }
 {
     let number = port.checked_sub(1).ok_or(EventFault::BadPort)?;
-    match tables.rings.connection(number) {
-        Some(connection) if connection.guest == guest.id => Port::try_from(port),
-        _ => Err(EventFault::BadPort),
-    }
+    tables
+        .rings
+        .connection(number)
+        .filter(|connection| connection.guest == guest.id)
+        .ok_or(EventFault::BadPort)?;
+    Port::try_from(port)
 }
 
 /// A guest marks its port pending at domain 0.
@@ -44,7 +46,6 @@ pub fn next(tables: &mut Tables, memory: &[u8], caller: u32) -> Result<Answer, H
     let Some(port) = tables.events.pick(domain) else {
         return Ok(Answer::Port(0));
     };
-    let port = Port { number: port as u8 };
     tables.events.drop_mark(domain, port);
     Ok(Answer::Port(port.number))
 }

@@ -8,13 +8,8 @@ use Rattle.connection.specs.Tables.{parts_of}
 use Rattle.connection.specs.declared.tables.Job.{Job}
 use Rattle.backend.specs.Move.{moving}
 use Rattle.backend.specs.Respond.{Responded}
-use Rattle.law.specs.Complete.{completed}
 use Rattle.driver.proofs.Leaving.{given_job, ok_or_err, no_job_leaves, leaves_by, broken_leaves, finished-leaves, completed_by, status_some, refused_some, device_moved, memory_moved, not_moved, not_ended, ended}
 use Rattle.driver.proofs.completing.complete.Goals as goal
-
-pub returns-in_default : goal.returns-in_default
-unfolding completed
-returns-in_default g c = search rules
 
 pub returns-in_err-job : goal.returns-in_err-job
 returns-in_err-job g c =

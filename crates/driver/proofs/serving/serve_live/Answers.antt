@@ -17,7 +17,7 @@ use Rattle.driver.proofs.serving.serve_live.Goals as goal
 
 pub spend-requires : goal.spend-requires
 spend-requires g c =
-    let n = c.args.number in
+    let n = c.args.number.number in
     let C = c.args.tables.now.rings in
     let k = c.args.connection.now in
     let o = c.free_ticket-ticket.result in
@@ -28,7 +28,7 @@ spend-requires g c =
     let free = ticket_free busy (next_ticket C.jobs n) c.in-Some.ticket (sym c.free_ticket-ticket.ensures ∙ found.1) in
     record {
       live = ap₂ (λ (K : Rings) (t : Consumed). connection_at K t.connection) rings token
-          ∙ get_or-set_same C.connections n (Some (consumed k)) None (within_some C.connections n k c.requires.live);
+          ∙ get_or-set_same C.connections n (Some (consumed k)) None (within_some C.connections n k c.requires);
       ticket = free.1 ∙ sym (ap₂ (λ (K : Rings) (t : Consumed). next_ticket K.jobs t.connection) rings token);
     }
 
@@ -36,7 +36,7 @@ pub returns-in_default : goal.returns-in_default
 returns-in_default g c =
     let D = g.D.Device.rules in
     let x = g.D.Device.meaning c.args.device.now in
-    let n = c.args.number in
+    let n = c.args.number.number in
     let H = c.args.tables.now in
     let m = c.args.memory.now in
     let k = c.args.connection.now in
@@ -51,7 +51,7 @@ pub returns-in_err-ticket : goal.returns-in_err-ticket
 returns-in_err-ticket g c =
     let D = g.D.Device.rules in
     let x = g.D.Device.meaning c.args.device.now in
-    let n = c.args.number in
+    let n = c.args.number.number in
     let H = c.args.tables.now in
     let m = c.args.memory.now in
     let k = c.args.connection.now in
@@ -68,7 +68,7 @@ pub returns : goal.returns
 returns g c =
     let D = g.D.Device.rules in
     let x = g.D.Device.meaning c.args.device.now in
-    let n = c.args.number in
+    let n = c.args.number.number in
     let H = c.args.tables.now in
     let m = c.args.memory.now in
     let k = c.args.connection.now in
