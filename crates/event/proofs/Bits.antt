@@ -20,6 +20,11 @@ marking w p h = record { here = bit_at_set_same w32 w p h; others = λ q l other
 pub dropping : (w p : ℕ) → p < 32 → Only p 0 w (bit_and w (4294967295 - 1 * 2 ^ p % 2 ^ 32))
 dropping w p h = record { here = bit_at_clear_same w32 w p h; others = λ q l other. bit_at_clear_other w32 w p h q l other }
 
+-- what is picked of a word that is not empty was pending
+pub lowest : (w : ℕ) → 0 < w → w < 2 ^ 32 → (pick w < 32) × (bit w (pick w) ≡ 1)
+unfolding pick
+lowest w p h = let l = bit_at-trailing_zeros w32 w p h in (l.0, l.1)
+
 -- the port whose number is a word's trailing zeros, if there is one, is what is picked of it and was pending
 pub picks : (w : ℕ) → w < 2 ^ 32 → (r : Result Port EventFault) (o : Option Port) → o ≡ result_ok r
     → MatchResult r (λ p. p.number ≡ count_trailing_zeros 32 w) (λ fault. (32 ≤ count_trailing_zeros 32 w) × (fault ≡ BadPort))

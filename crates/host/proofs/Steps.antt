@@ -6,7 +6,7 @@ use Rattle.frame.specs.declared.fault.FrameFault.{FrameFault}
 use Rattle.device.specs.Meaning.{Rules}
 use Rattle.device.specs.Laws.{Laws}
 use Rattle.event.specs.Pending.{pick, word, dropped}
-use Rattle.event.proofs.Bits.{picks}
+use Rattle.event.proofs.Bits.{lowest}
 use Rattle.answer.specs.declared.fault.HostFault.{HostFault}
 use Rattle.answer.specs.declared.fault.HostFault.TheVariants.{InFrame, InEvent}
 use Rattle.answer.specs.declared.reply.Answer.{Answer}
@@ -23,7 +23,7 @@ use Rattle.host.specs.View.{told_with}
 
 -- the port that next picks was pending
 pub picks_pending : Picks pick
-picks_pending = record { marked_one = λ w some fits. (picks w some fits).1 }
+picks_pending = record { marked_one = λ w some fits. (lowest w some fits).1 }
 
 module _ {M N : Type 0} (R : Rules M) (S : Rules N) where
   -- refused by the host, or what the call does

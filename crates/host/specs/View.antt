@@ -3,9 +3,8 @@ use Rattle.std.specs.Prelude.{ℕ, List, [], Result}
 use Rattle.rules.specs.Refusal.{after_ok}
 use Rattle.answer.specs.declared.fault.HostFault.{HostFault}
 use Rattle.answer.specs.declared.reply.Answer.{Answer}
-use Rattle.law.specs.World.{World}
+use Rattle.law.specs.World.{World, new_host}
 use Rattle.law.specs.Call.{Reply}
-use Rattle.law.specs.Step.{new_host}
 use Rattle.host.specs.declared.state.Host.{Host}
 
 abbrev pub seen : {M N : Type 0} → Host → List ℕ → M → N → World M N

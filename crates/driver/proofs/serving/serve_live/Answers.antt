@@ -79,6 +79,6 @@ returns g c =
     let on : Request → Rings → Consumed → Outcome g.D.Device.Meaning = λ q C t. spent D t.connection (consumed k) q (with_rings C H) m x in
     leaves_by _ _ _ _ _ _
     (looked_at D n k H m x (Ok true) (ap (λ b. look b k m) (sym same) ∙ found.0)
-    ∙ ap (λ q. on q (consumed_on n k H.rings) (record { connection = n; id = 0; operation = 0 })) (sym c.next_request-request.ensures)
+    ∙ ap (λ q. on q (consumed_on n k H.rings) (record { connection = n; id = 0; operation = 0; sealed = tt })) (sym c.next_request-request.ensures)
     ∙ ap₂ (on c.next_request-request.result) (sym c.consume.ensures.rings) (sym c.consume.ensures.token))
     c.spend.ensures
