@@ -1,16 +1,24 @@
 -- Runs, call by call.
-use Rattle.std.proofs.Common.{ℕ, List, [], ◌∷◌, ◌++◌, refl, ap}
+use Rattle.std.proofs.Common.{◌≡◌, ℕ, List, [], ◌∷◌, ◌++◌, Ok, refl, ap}
+use Rattle.rules.proofs.Refusals.{none-held}
 use Rattle.device.specs.Meaning.{Rules}
-use Rattle.law.specs.World.{World}
+use Rattle.backend.specs.declared.tables.Tables.{Tables}
+use Rattle.law.specs.World.{World, new_host}
 use Rattle.law.specs.Call.{Call, Reply}
+use Rattle.law.specs.Step.{started, start_rules}
 use Rattle.law.specs.Run.{Starts, Reaches, Lawful, Kept, Ran, AtOnce, calls_of}
 use Rattle.law.proofs.Kept.{at_once}
 
+-- the tables that start gives are a new host's
+pub is_new : (n : ℕ) (m : List ℕ) (H : Tables) → started n m ≡ Ok H → H ≡ new_host n
+unfolding started
+is_new n m H e = let same = (none-held (start_rules n m) (Ok (new_host n)) H e).1 in cc
+
 module _ {M N : Type 0} (R : Rules M) (S : Rules N) (pick : ℕ → ℕ) where
   -- no call was made yet
-  pub ran_none : (w : World M N) → Starts R S w → Ran R S pick w [] w
+  pub ran_none : (u w : World M N) → Starts R S u → w ≡ u → Ran R S pick u [] w
   unfolding Reaches Lawful AtOnce calls_of
-  ran_none w starts = record { history = []; made = refl; starts = starts; at_once = refl; reached = (w, (starts, at_once R S w)); lawful = tt }
+  ran_none u w starts same = rw same (record { history = []; made = refl; starts = starts; at_once = refl; reached = (u, (starts, at_once R S u)); lawful = tt })
 
   -- one call more
   pub ran_more : (u : World M N) (cs : List Call) (w : World M N) (c : Call) (r : Reply) (v : World M N) → Ran R S pick u cs w → Kept R S pick w c r v → Ran R S pick u (cs ++ c ∷ []) v

@@ -1,18 +1,26 @@
-use Rattle.std.proofs.Common.{List, [], ◌∷◌, map, get_or, take, sym, ap, ◌∙◌, subst}
+use Rattle.std.proofs.Common.{List, [], ◌∷◌, map, get_or, take, Ok, sym, ap, ◌∙◌, subst}
 use Rattle.std.proofs.lemmas.List.{map-append, take_more, take_all}
 use Rattle.event.specs.Pending.{pick}
+use Rattle.backend.specs.declared.tables.Tables.{Tables}
 use Rattle.law.specs.Call.{Call}
 use Rattle.law.specs.Run.{Ran}
 use Rattle.host.specs.Calls.{call_of}
 use Rattle.table_calls.specs.Parts.{allowed}
 use Rattle.host.specs.View.{fresh, seen}
 use Rattle.host.specs.declared.call.Call.TheVariants.{Take}
-use Rattle.host.proofs.Running.{ran_none, ran_more}
+use Rattle.host.proofs.Running.{is_new, ran_none, ran_more}
 use Rattle.host.proofs.whole.run.Goals as goal
 
 pub loop-call-init : goal.loop-call-init
 loop-call-init g c p q =
-    ran_none g.B.Device.rules g.N.Device.rules pick _ (record { count = c.args.frames; new = sym c.in_ok-host.ensures; idle0 = p; idle1 = q })
+    let b = g.B.Device in
+    let n = g.N.Device in
+    let m = c.args.memory.now in
+    let x = b.meaning c.args.block.now in
+    let y = n.meaning c.args.net.now in
+    let new = is_new c.args.frames m _ (sym c.in_ok-host.ensures) in
+    ran_none b.rules n.rules pick (fresh c.args.frames m x y) _ (record { count = c.args.frames; new = sym c.in_ok-host.ensures ∙ ap Ok new; idle0 = p; idle1 = q })
+    (ap (λ (H : Tables). record { host = H; memory = m; bay0 = x; bay1 = y }) new)
 
 pub loop-call-preserved : goal.loop-call-preserved
 loop-call-preserved g c p q =
