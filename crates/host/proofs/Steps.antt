@@ -25,99 +25,86 @@ use Rattle.host.specs.View.{told_with}
 pub picks_pending : Picks pick
 picks_pending = record { marked_one = λ w some fits. (lowest w some fits).1 }
 
-module _ {M N : Type 0} (R : Rules M) (S : Rules N) where
+-- what a load gives back
+same_reply : (n : ℕ) (buffer : List ℕ) (a : Result Unit HostFault) (v : Result Unit FrameFault) (bytes : List ℕ)
+    → told_with (granting (λ _. Length n) (and_then a (λ _. passed InFrame v))) (after_ok (and_then a (λ _. passed InFrame v)) buffer (λ _. bytes))
+    ≡ either_of a (λ _. record { result = passed_up InFrame (λ _. Length n) v; filled = after_ok v [] (λ _. bytes) }) (λ e. told (Err e))
+same_reply n buffer (Ok u) (Ok t) bytes = refl
+same_reply n buffer (Ok u) (Err e) bytes = refl
+same_reply n buffer (Err e) v bytes = refl
+
+module _ {M N : Type 0} where
+  abbrev pub world_of : Tables → List ℕ → M → N → World M N
+  world_of H m x y = record { host = H; memory = m; bay0 = x; bay1 = y }
+
   -- refused by the host, or what the call does
   abbrev pub unless_refused : List (Rule HostFault) → World M N → Ends M N → Ends M N
   unless_refused rules w e = either_of (refuse_first {T = Unit} rules (Ok tt)) (λ _. e) (λ f. record { answer = told (Err f); world = w })
 
-  -- the call's answer and what it leaves are those of e, which is its step
-  pub kept_as : Laws R → Laws S → (w : World M N) (c : Call) (r : Reply) (v : World M N) (e : Ends M N)
-      → step R S pick w c ≡ e → r ≡ e.answer → v ≡ e.world → Kept R S pick w c r v
-  kept_as lr ls w c r v e is answers leaves =
-      kept R S lr ls pick picks_pending w c r v (record {
-        answers = answers ∙ sym (ap (λ (x : Ends M N). x.answer) is);
-        leaves = leaves ∙ sym (ap (λ (x : Ends M N). x.world) is);
-      })
+  -- what a verdict grants, heard after the host's own rules
+  granted_ends : {T E : Type 0} (g : E → HostFault) (answers : T → Answer) (H : Tables) (m : List ℕ) (x : M) (y : N) (tables_by : T → Tables) (memory_by : T → List ℕ) (a : Result Unit HostFault) (d : Result T E)
+      → ◌≡◌ {A = Ends M N} (record {
+        answer = told (granting answers (and_then a (λ _. passed g d)));
+        world = world_of (after_ok (and_then a (λ _. passed g d)) H tables_by) (after_ok (and_then a (λ _. passed g d)) m memory_by) x y;
+      }) (either_of a (λ _. by_verdict g d (world_of H m x y) answers (λ t. world_of (tables_by t) (memory_by t) x y)) (λ f. record { answer = told (Err f); world = world_of H m x y }))
+  granted_ends g answers H m x y tables_by memory_by (Ok u) (Ok t) = refl
+  granted_ends g answers H m x y tables_by memory_by (Ok u) (Err e) = refl
+  granted_ends g answers H m x y tables_by memory_by (Err f) d = refl
 
-  -- a call on the tables and the memory
-  module _ {T E : Type 0} (rules : List (Rule HostFault)) (g : E → HostFault) (verdict : Result T E) (answers : T → Answer)
-      (H : Tables) (m : List ℕ) (x : M) (y : N) (tables_by : T → Tables) (memory_by : T → List ℕ) where
-    abbrev before : World M N
-    before = record { host = H; memory = m; bay0 = x; bay1 = y }
+  answer_in : (w : World M N) (a : Result Unit HostFault) (e : Ends M N)
+      → either_of a (λ _. e.answer) (λ f. told (Err f)) ≡ (either_of a (λ _. e) (λ f. record { answer = told (Err f); world = w })).answer
+  answer_in w (Ok u) e = refl
+  answer_in w (Err g) e = refl
 
-    abbrev after : T → World M N
-    after t = record { host = tables_by t; memory = memory_by t; bay0 = x; bay1 = y }
+  stays_in : (w : World M N) (a : Result Unit HostFault) (r : Reply)
+      → w ≡ (either_of a (λ _. (let e : Ends M N = record { answer = r; world = w } in e)) (λ f. record { answer = told (Err f); world = w })).world
+  stays_in w (Ok u) r = refl
+  stays_in w (Err g) r = refl
 
-    abbrev ends : Ends M N
-    ends = unless_refused rules before (by_verdict g verdict before answers after)
+  one_of : (b : Bool) (H K : Tables) (m : List ℕ) (x : M) (y : N) → cond b (world_of H m x y) (world_of K m x y) ≡ world_of (cond b H K) m x y
+  one_of true H K m x y = refl
+  one_of false H K m x y = refl
 
-    same_ends : (a : Result Unit HostFault) (d : Result T E)
-        → ◌≡◌ {A = Ends M N} (record {
-          answer = told (granting answers (and_then a (λ _. passed g d)));
-          world = record { host = after_ok (and_then a (λ _. passed g d)) H tables_by; memory = after_ok (and_then a (λ _. passed g d)) m memory_by; bay0 = x; bay1 = y };
-        }) (either_of a (λ _. by_verdict g d before answers after) (λ f. record { answer = told (Err f); world = before }))
-    same_ends (Ok u) (Ok t) = refl
-    same_ends (Ok u) (Err e) = refl
-    same_ends (Err f) d = refl
+  module _ {R : Rules M} {S : Rules N} where
+    -- the call's answer and what it leaves are those of e, which is its step
+    pub kept_as : Laws R → Laws S → (w : World M N) (c : Call) (r : Reply) (v : World M N) (e : Ends M N)
+        → step R S pick w c ≡ e → r ≡ e.answer → v ≡ e.world → Kept R S pick w c r v
+    kept_as lr ls w c r v e is answers leaves =
+        kept R S lr ls pick picks_pending w c r v (record {
+          answers = answers ∙ sym (ap (λ (x : Ends M N). x.answer) is);
+          leaves = leaves ∙ sym (ap (λ (x : Ends M N). x.world) is);
+        })
 
-    pub kept_by : Laws R → Laws S → (c : Call) (r : Result Answer HostFault) (H' : Tables) (m' : List ℕ)
-        → step R S pick before c ≡ ends
-        → GrantedBy rules g verdict answers H m tables_by memory_by r H' m'
-        → Kept R S pick before c (told r) (record { host = H'; memory = m'; bay0 = x; bay1 = y })
-    kept_by lr ls c r H' m' is parts =
-        let same = same_ends (refuse_first rules (Ok tt)) verdict in
-        kept_as lr ls before c (told r) (record { host = H'; memory = m'; bay0 = x; bay1 = y }) ends is
-        (ap told parts.answer ∙ ap (λ (e : Ends M N). e.answer) same)
-        (ap₂ (λ (K : Tables) (n : List ℕ). (let w : World M N = record { host = K; memory = n; bay0 = x; bay1 = y } in w)) parts.tables parts.memory ∙ ap (λ (e : Ends M N). e.world) same)
+    -- a call on the tables and the memory
+    pub kept_by : {T E : Type 0} {rules : List (Rule HostFault)} {g : E → HostFault} {verdict : Result T E} {answers : T → Answer} {H : Tables} {m : List ℕ} {x : M} {y : N}
+        {tables_by : T → Tables} {memory_by : T → List ℕ} {c : Call} {r : Result Answer HostFault} {H' : Tables} {m' : List ℕ}
+        → Laws R → Laws S → GrantedBy rules g verdict answers H m tables_by memory_by r H' m'
+        → step R S pick (world_of H m x y) c ≡ unless_refused rules (world_of H m x y) (by_verdict g verdict (world_of H m x y) answers (λ t. world_of (tables_by t) (memory_by t) x y))
+        → Kept R S pick (world_of H m x y) c (told r) (world_of H' m' x y)
+    kept_by {rules = rules} {g = g} {verdict = verdict} {answers = answers} {H = H} {m = m} {x = x} {y = y} {tables_by = tables_by} {memory_by = memory_by} lr ls parts is =
+        let same = granted_ends g answers H m x y tables_by memory_by (refuse_first rules (Ok tt)) verdict in
+        kept_as lr ls _ _ _ _ _ is (ap told parts.answer ∙ ap (λ (e : Ends M N). e.answer) same)
+        (ap₂ (λ (K : Tables) (n : List ℕ). world_of K n x y) parts.tables parts.memory ∙ ap (λ (e : Ends M N). e.world) same)
 
-  -- a load of n bytes, into a buffer or into the front of one
-  module _ (H : Tables) (m : List ℕ) (x : M) (y : N) (d f offset n : ℕ) (buffer : List ℕ) where
-    abbrev loading : World M N
-    loading = record { host = H; memory = m; bay0 = x; bay1 = y }
-
-    same-reply : (a : Result Unit HostFault) (v : Result Unit FrameFault) (bytes : List ℕ)
-        → told_with (granting (λ _. Length n) (and_then a (λ _. passed InFrame v))) (after_ok (and_then a (λ _. passed InFrame v)) buffer (λ _. bytes))
-        ≡ either_of a (λ _. record { result = passed_up InFrame (λ _. Length n) v; filled = after_ok v [] (λ _. bytes) }) (λ e. told (Err e))
-    same-reply (Ok u) (Ok t) bytes = refl
-    same-reply (Ok u) (Err e) bytes = refl
-    same-reply (Err e) v bytes = refl
-
-    answer-in : (a : Result Unit HostFault) (e : Ends M N)
-        → either_of a (λ _. e.answer) (λ f. told (Err f)) ≡ (either_of a (λ _. e) (λ f. record { answer = told (Err f); world = loading })).answer
-    answer-in (Ok u) e = refl
-    answer-in (Err g) e = refl
-
-    stays-in : (a : Result Unit HostFault) (r : Reply)
-        → loading ≡ (either_of a (λ _. (let e : Ends M N = record { answer = r; world = loading } in e)) (λ f. record { answer = told (Err f); world = loading })).world
-    stays-in (Ok u) r = refl
-    stays-in (Err g) r = refl
-
-    pub kept_loaded : Laws R → Laws S → (r : Result Answer HostFault) (buffer' : List ℕ)
+    -- a load of n bytes, into a buffer or into the front of one
+    pub kept_loaded : {H : Tables} {m : List ℕ} {x : M} {y : N} {d f offset n : ℕ} (buffer : List ℕ) {r : Result Answer HostFault} {buffer' : List ℕ} → Laws R → Laws S
         → r ≡ granting (λ _. Length n) (heard (guest_rules H m d) InFrame (load_verdict H d f offset n))
         → buffer' ≡ after_ok (heard (guest_rules H m d) InFrame (load_verdict H d f offset n)) buffer (λ _. bytes_at (4096 * f + offset) n m)
-        → Kept R S pick loading (Load d f offset n) (told_with r buffer') loading
+        → Kept R S pick (world_of H m x y) (Load d f offset n) (told_with r buffer') (world_of H m x y)
     unfolding step proceeds
-    kept_loaded lr ls r buffer' answer filled =
+    kept_loaded {H = H} {m = m} {x = x} {y = y} {d = d} {f = f} {offset = offset} {n = n} buffer lr ls answer filled =
         let a = refuse_first (guest_rules H m d) (Ok tt) in
-        kept_as lr ls loading (Load d f offset n) (told_with r buffer') loading _ refl
-        (ap₂ told_with answer filled ∙ same-reply a (load_verdict H d f offset n) (bytes_at (4096 * f + offset) n m) ∙ answer-in a _)
-        (stays-in a _)
+        let w = world_of H m x y in
+        kept_as lr ls w _ _ _ _ refl
+        (ap₂ told_with answer filled ∙ same_reply n buffer a (load_verdict H d f offset n) (bytes_at (4096 * f + offset) n m) ∙ answer_in w a _)
+        (stays_in w a _)
 
-  -- next
-  module _ (H : Tables) (m : List ℕ) (x : M) (y : N) (d : ℕ) where
-    abbrev in-world : Tables → World M N
-    in-world K = record { host = K; memory = m; bay0 = x; bay1 = y }
-
-    one_of : (b : Bool) (K : Tables) → cond b (in-world H) (in-world K) ≡ in-world (cond b H K)
-    one_of true K = refl
-    one_of false K = refl
-
-    pub kept_next : Laws R → Laws S → (r : Result Answer HostFault) (H' : Tables)
+    -- next
+    pub kept_next : {H : Tables} {m : List ℕ} {x : M} {y : N} {d : ℕ} {r : Result Answer HostFault} {H' : Tables} → Laws R → Laws S
         → GrantedBy {T = Unit} (next_rules H m d) InEvent (Ok tt) (λ _. Port (next_port pick (word H.events d))) H m (λ _. taken_up d H) (λ _. m) r H' m
-        → Kept R S pick (in-world H) (Next d) (told r) (in-world H')
+        → Kept R S pick (world_of H m x y) (Next d) (told r) (world_of H' m x y)
     unfolding step proceeds
-    kept_next lr ls r H' parts =
-        kept_by {T = Unit} (next_rules H m d) InEvent (Ok tt) (λ _. Port (next_port pick (word H.events d))) H m x y (λ _. taken_up d H) (λ _. m) lr ls (Next d) r H' m
-        (ap (λ v. unless_refused (next_rules H m d) (in-world H) (record { answer = told (Ok (Port (next_port pick (word H.events d)))); world = v }))
-        (one_of (eqb (word H.events d) 0) (with_events (dropped d (next_port pick (word H.events d)) H.events) H)))
-        parts
+    kept_next {H = H} {m = m} {x = x} {y = y} {d = d} lr ls parts =
+        kept_by lr ls parts
+        (ap (λ v. unless_refused (next_rules H m d) (world_of H m x y) (record { answer = told (Ok (Port (next_port pick (word H.events d)))); world = v }))
+        (one_of (eqb (word H.events d) 0) H (with_events (dropped d (next_port pick (word H.events d)) H.events) H) m x y))

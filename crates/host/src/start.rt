@@ -10,6 +10,7 @@ use frame::{FRAME_SIZE, FRAMES};
 
 impl Host {
     /// A host of 1 to 256 frames that nobody owns, over memory of just their size.
+    #[tactic(auto, using(std::proofs::lemmas::Bool::Decides::nat_tests), unfolding(law::specs::World::new_host, law::specs::Step::started))]
     pub fn start(frames: u32, memory: &[u8]) -> Result<Host, HostFault>
         ensures { granting (λ h. h.tables) result ≡ started frames memory.now }
     {

@@ -16,6 +16,6 @@ returns-in-Load g c =
     let w = seen c.args.self.now c.args.memory.now (b.meaning c.args.block.now) (n.meaning c.args.net.now) in
     record {
       step = subst (λ k. Kept b.rules n.rules pick w (call_of k) (reply_of k r buffer) w) (sym c.in-Load.is)
-          (kept_loaded b.rules n.rules _ _ _ _ _ _ _ _ _ b.laws n.laws _ _ e.answer e.filled);
+          (kept_loaded _ b.laws n.laws e.answer e.filled);
       filled = subst (λ k. Filled (fills k) r c.args.buffer.now buffer) (sym c.in-Load.is) (record { rest = e.rest; refused = e.refused });
     }

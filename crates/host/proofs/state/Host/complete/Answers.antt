@@ -13,10 +13,8 @@ use Rattle.host.proofs.state.Host.complete.Goals as goal
 
 pub returns-in_err-fitting : goal.returns-in_err-fitting
 returns-in_err-fitting g c =
-    let b = g.B.Device in
-    let n = g.N.Device in
     let p = err_from_is_err_and c.from_residual.result c.from_residual.ensures.1 in
-    kept_refused b.rules n.rules b.laws n.laws _ _ _ _ (Complete c.args.bay) _ _ c.in_err-fitting.ensures.answer (p.1 ∙ ap Err p.2)
+    kept_refused g.B.Device.laws g.N.Device.laws c.in_err-fitting.ensures.answer (p.1 ∙ ap Err p.2)
 
 pub returns-in-BlockBay : goal.returns-in-BlockBay
 unfolding proceeds
@@ -25,8 +23,8 @@ returns-in-BlockBay g c =
     let n = g.N.Device in
     let w = seen c.args.self.now c.args.memory.now (b.meaning c.args.block.now) (n.meaning c.args.net.now) in
     let bay : c.args.bay ≡ 0 = search rules in
-    kept_block b.rules n.rules b.laws n.laws _ _ _ _ (Complete c.args.bay) _ _ _ _ _ _ c.in_ok-fitting.ensures.answer
-    (ap (λ k. proceeds b.rules n.rules pick w (Complete k)) bay) c.complete.ensures c.passed_up.ensures
+    kept_block b.laws n.laws c.in_ok-fitting.ensures.answer c.complete.ensures c.passed_up.ensures
+    (ap (λ k. proceeds b.rules n.rules pick w (Complete k)) bay)
 
 pub returns-in-NetBay : goal.returns-in-NetBay
 unfolding proceeds
@@ -35,8 +33,8 @@ returns-in-NetBay g c =
     let n = g.N.Device in
     let w = seen c.args.self.now c.args.memory.now (b.meaning c.args.block.now) (n.meaning c.args.net.now) in
     let bay : c.args.bay ≡ 1 = search rules in
-    kept_net b.rules n.rules b.laws n.laws _ _ _ _ (Complete c.args.bay) _ _ _ _ _ _ c.in_ok-fitting.ensures.answer
-    (ap (λ k. proceeds b.rules n.rules pick w (Complete k)) bay) c.complete-in-NetBay.ensures c.passed_up-in-NetBay.ensures
+    kept_net b.laws n.laws c.in_ok-fitting.ensures.answer c.complete-in-NetBay.ensures c.passed_up-in-NetBay.ensures
+    (ap (λ k. proceeds b.rules n.rules pick w (Complete k)) bay)
 
 pub returns-in_err-map_err : goal.returns-in_err-map_err
 unfolding proceeds
@@ -48,5 +46,5 @@ returns-in_err-map_err g c =
     let above : 1 < c.args.bay = search rules in
     let past : ltb 1 c.args.bay ≡ true = search (rules, arith, nat_tests) in
     rw refused
-    (kept_barred b.rules n.rules b.laws n.laws _ _ _ _ (Complete c.args.bay) _ c.in_ok-fitting.ensures.answer
+    (kept_barred b.laws n.laws c.in_ok-fitting.ensures.answer
     (ap (λ k. either_of (cond k (Err BadBay) (Ok tt)) (λ _. completed_in b.rules n.rules (bay_numbered c.args.bay) w) (λ e. record { answer = told (Err (InRing e)); world = w })) past))

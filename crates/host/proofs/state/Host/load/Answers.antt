@@ -4,10 +4,8 @@ use Rattle.host.proofs.state.Host.load.Goals as goal
 
 pub returns : goal.returns
 returns g c =
-    let b = g.B.Device in
-    let n = g.N.Device in
     let e = c.load.ensures in
     record {
-      step = kept_loaded b.rules n.rules _ _ _ _ _ _ _ _ _ b.laws n.laws _ _ e.answer e.filled;
+      step = kept_loaded _ g.B.Device.laws g.N.Device.laws e.answer e.filled;
       untouched = left_alone _ _ _ _ _ _ e.answer e.filled;
     }

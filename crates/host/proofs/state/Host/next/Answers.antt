@@ -2,7 +2,4 @@ use Rattle.host.proofs.Steps.{kept_next}
 use Rattle.host.proofs.state.Host.next.Goals as goal
 
 pub returns : goal.returns
-returns g c =
-    let b = g.B.Device in
-    let n = g.N.Device in
-    kept_next b.rules n.rules _ _ _ _ _ b.laws n.laws _ _ c.next.ensures
+returns g c = kept_next g.B.Device.laws g.N.Device.laws c.next.ensures

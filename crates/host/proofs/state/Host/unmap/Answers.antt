@@ -5,7 +5,4 @@ use Rattle.host.proofs.state.Host.unmap.Goals as goal
 
 pub returns : goal.returns
 unfolding step proceeds
-returns g c =
-    let b = g.B.Device in
-    let n = g.N.Device in
-    kept_by b.rules n.rules _ _ _ _ _ _ _ _ _ _ b.laws n.laws _ _ _ _ refl c.unmap.ensures
+returns g c = kept_by g.B.Device.laws g.N.Device.laws c.unmap.ensures refl
