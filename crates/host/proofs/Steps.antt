@@ -11,6 +11,7 @@ use Rattle.answer.specs.declared.fault.HostFault.{HostFault}
 use Rattle.answer.specs.declared.fault.HostFault.TheVariants.{InFrame, InEvent}
 use Rattle.answer.specs.declared.reply.Answer.{Answer}
 use Rattle.answer.specs.declared.reply.Answer.TheVariants.{Length, Port}
+use Rattle.answer.specs.Parts.{answer_parts}
 use Rattle.backend.specs.declared.tables.Tables.{Tables}
 use Rattle.law.specs.World.{World, with_events}
 use Rattle.law.specs.Call.{Call, Reply, Load, Next}
@@ -70,8 +71,10 @@ module _ {M N : Type 0} where
     pub kept_as : Laws R → Laws S → (w : World M N) (c : Call) (r : Reply) (v : World M N) (e : Ends M N)
         → step R S pick w c ≡ e → r ≡ e.answer → v ≡ e.world → Kept R S pick w c r v
     kept_as lr ls w c r v e is answers leaves =
+        let same : r ≡ (step R S pick w c).answer = answers ∙ sym (ap (λ (x : Ends M N). x.answer) is) in
         kept R S lr ls pick picks_pending w c r v (record {
-          answers = answers ∙ sym (ap (λ (x : Ends M N). x.answer) is);
+          answers = same;
+          parts = ap (λ (k : Reply). answer_parts k.result) same;
           leaves = leaves ∙ sym (ap (λ (x : Ends M N). x.world) is);
         })
 

@@ -1,6 +1,7 @@
 -- Whole runs, and the law over them.
 use Rattle.std.specs.Prelude.{◌≡◌, ℕ, List, [], ◌∷◌, ◌++◌, length, Ok}
 use Rattle.device.specs.Meaning.{Rules}
+use Rattle.answer.specs.Parts.{answer_parts}
 use Rattle.law.specs.World.{World}
 use Rattle.law.specs.Call.{Call, Reply}
 use Rattle.law.specs.Step.{step, started}
@@ -36,6 +37,7 @@ module _ {M N : Type 0} (R : Rules M) (S : Rules N) (pick : ℕ → ℕ) where
   -- the call c, made at the world w, answers r and leaves v: its step
   pub record Does (w : World M N) (c : Call) (r : Reply) (v : World M N) : Type 0 where
     pub answers : r ≡ (step R S pick w c).answer
+    pub parts : answer_parts r.result ≡ answer_parts (step R S pick w c).answer.result
     pub leaves : v ≡ (step R S pick w c).world
 
   -- h is a run that has led to w: each call found what the one before it left, or what came of that meanwhile
