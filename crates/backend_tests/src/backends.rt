@@ -38,12 +38,7 @@ fn two_segments() -> Checked {
 }
 
 // Domain 1 grants domain 0 a frame, to be read or written.
-fn grant(
-    grants: &mut Grants,
-    one: Domain,
-    reference: u32,
-    frame: u32,
-) -> Result<(), GrantFault> {
+fn grant(grants: &mut Grants, one: Domain, reference: u32, frame: u32) -> Result<(), GrantFault> {
     let reference = Grants::may_write(reference)?;
     grants.write_entry(
         one,
