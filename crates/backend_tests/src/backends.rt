@@ -5,7 +5,7 @@ use connection::{Bay, Connection, Rings};
 use device::Direction;
 use event::{Events, Port};
 use frame::{Domain, Frames};
-use grant::Grants;
+use grant::{GrantFault, Grants};
 use netif::ReceiveRequest;
 use request::{Checked, Miss, Parts, Span};
 use ring::{Reply, Word, put_word, word_or_zero};
@@ -38,18 +38,18 @@ fn two_segments() -> Checked {
 }
 
 // Domain 1 grants domain 0 a frame, to be read or written.
-fn grant(grants: &mut Grants, one: Domain, reference: u32, frame: u32) {
-    if let Ok(reference) = Grants::may_write(reference) {
-        grants.write_entry(
-            one,
-            reference,
-            GrantEntry {
-                flags: 1,
-                domid: 0,
-                frame,
-            },
-        );
-    }
+fn grant(grants: &mut Grants, one: Domain, reference: u32, frame: u32) -> Result<(), GrantFault> {
+    let reference = Grants::may_write(reference)?;
+    grants.write_entry(
+        one,
+        reference,
+        GrantEntry {
+            flags: 1,
+            domid: 0,
+            frame,
+        },
+    );
+    Ok(())
 }
 
 // The number of a refusal and its place, or 0 and 0.
@@ -64,14 +64,12 @@ fn number(r: Result<(), Miss>) -> (i32, u8) {
 // unmapped again. With both granted they get the handles 0 and 1, and the second part begins at 4,096 * 3 + 1,024.
 #[test]
 fn segments(rt: HostRuntime) -> Result<(), Fail> {
-    let Ok(one) = Domain::try_from(1) else {
-        return Err(Fail::new("1 is a domain"));
-    };
+    let one = Domain::try_from(1)?;
     let mut frames = Frames::new(4);
     frames.settle(one, 2);
     frames.settle(one, 3);
     let mut grants = Grants::new();
-    grant(&mut grants, one, 5, 2);
+    grant(&mut grants, one, 5, 2)?;
     let checked = two_segments();
     assert_eq!(rt; order_for(3, &checked).length, 5120);
     let mut job = job_for(0, Kind::Block, &checked);
@@ -80,7 +78,7 @@ fn segments(rt: HostRuntime) -> Result<(), Fail> {
         (-1, 1)
     );
     assert_eq!(rt; grants.pins(2), 0);
-    grant(&mut grants, one, 6, 3);
+    grant(&mut grants, one, 6, 3)?;
     assert_eq!(rt;
         number(pin_segments(&frames, &mut grants, 1, &checked.parts, &mut job)),
         (0, 0)
@@ -99,12 +97,8 @@ fn segments(rt: HostRuntime) -> Result<(), Fail> {
 // response 5: the first response, in slot 4 at 64 + 4 * 8 = 96 of the page, marks its port 3, the second does not.
 #[test]
 fn responses(rt: HostRuntime) -> Result<(), Fail> {
-    let Ok(three) = Domain::try_from(3) else {
-        return Err(Fail::new("3 is a domain"));
-    };
-    let Ok(port) = Port::try_from(3) else {
-        return Err(Fail::new("3 is a port"));
-    };
+    let three = Domain::try_from(3)?;
+    let port = Port::try_from(3)?;
     let connection = Connection {
         kind: Kind::Receive,
         guest: 3,
@@ -157,9 +151,7 @@ fn taken_and_answered(rt: HostRuntime) -> Result<(), Fail> {
     });
     let taken = consume(&mut rings, 5, &connection, &request);
     taken.answer(&mut rings, &mut events, &mut memory, -1);
-    let Some(after) = rings.connection(5) else {
-        return Err(Fail::new("the connection is live"));
-    };
+    let after = rings.connection(5).ok_or("the connection is live")?;
     assert_eq!(rt; after.req_cons, 0);
     assert_eq!(rt; after.rsp_prod, 0);
     Ok(())

@@ -2,7 +2,7 @@
 use Rattle.std.proofs.Common.{◌≡◌, ℕ, ◌<◌, Bool, true, false, cond, ◌||◌, eqb, List, [], ◌∷◌, length, is_none, get_or, ℤ, Some, None, Ok, Err, Option, Result, sym, refl, ap, ◌∙◌, subst, ap₂, inl, inr, arith, Bor}
 use Rattle.std.proofs.lemmas.List.{get_or_past}
 use Rattle.std.proofs.lemmas.Bool.{cases_lt}
-use Rattle.std.specs.Option.{option_map, ok_or}
+use Rattle.std.specs.Option.{option_map}
 use Rattle.std.specs.Result.{result_ok}
 use Rattle.rules.specs.Refusal.{refuse_first, and_then, if_some, granting, either_of}
 use Rattle.device.specs.Meaning.{Rules, is_full, ready_ticket, finishing}
@@ -79,10 +79,6 @@ found_none o (Err f) e = absurd (let z : ◌≡◌ {A = ℕ} 0 1 = cc in omega a
 pub given_job : {T : Type 0} (o : Option (Bor T)) (r : Result (Bor T) RingFault) (j : Bor T) (v : Option T)
     → option_map (λ (y : Bor T). y.now) o ≡ v → o ≡ result_ok r → r ≡ Ok j → Some j.now ≡ v
 given_job {T} o r j v is part was = sym (ap (option_map (λ (y : Bor T). y.now)) (part ∙ ap result_ok was)) ∙ is
-
-pub ok_or_err : {T E : Type 0} (o : Option T) (d e : E) (r : Result T E) → r ≡ ok_or o d → r ≡ Err e → (o ≡ None) × (e ≡ d)
-ok_or_err None d e r is was = (refl, cc)
-ok_or_err (Some x) d e r is was = absurd (let z : ◌≡◌ {A = ℕ} 0 1 = cc in omega arith)
 
 -- what stands in a table stands within it
 pub within_some : {X : Type 0} (xs : List (Option X)) (k : ℕ) (x : X) → get_or xs k None ≡ Some x → k < length xs
@@ -182,17 +178,6 @@ module _ {X : Type 0} where
       ap (λ (o : Option ℕ). if_some o (record { answer = Ok Idle; host = H; memory = m; device = x })
       (λ n. if_some (in_bay b (job_at H.rings n)) (record { answer = Err NoJob; host = H; memory = m; device = x }) (λ i. completed_job D n i H m x))) (sym ready)
       ∙ ap (λ (o : Option Job). if_some o (record { answer = Err NoJob; host = H; memory = m; device = x }) (λ i. completed_job D t i H m x)) (sym job)
-
-  -- no job of the bay is under the ticket
-  pub no_job_leaves : (D : Rules X) (b : Bay) (t : ℕ) (H : Tables) (m : List ℕ) (x : X) (r : Result Answer RingFault)
-      → Some t ≡ ready_ticket D x → None ≡ in_bay b (job_at H.rings t) → r ≡ Err NoJob → Leaves (completed D b H m x) r H m x
-  unfolding completed
-  no_job_leaves D b t H m x r ready job answer =
-      leaves_by _ _ r H m x
-      (ap (λ (o : Option ℕ). if_some o (record { answer = Ok Idle; host = H; memory = m; device = x })
-      (λ n. if_some (in_bay b (job_at H.rings n)) (record { answer = Err NoJob; host = H; memory = m; device = x }) (λ i. completed_job D n i H m x))) (sym ready)
-      ∙ ap (λ (o : Option Job). if_some o (record { answer = Err NoJob; host = H; memory = m; device = x }) (λ i. completed_job D t i H m x)) (sym job))
-      (record { answer = answer; tables = refl; memory = refl; device = refl })
 
   -- its bytes did not move, or its order did not end, or both went well
   module _ (D : Rules X) (t : ℕ) (j : Job) (H : Tables) (m : List ℕ) (x : X) where

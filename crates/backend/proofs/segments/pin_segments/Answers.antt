@@ -1,27 +1,17 @@
-use Rattle.std.proofs.Common.{◌≡◌, ◌+◌, min, length, get_or, drop, Ok, Err, sym, refl, ap, ◌∙◌, ap₂, arith, rules}
-use Rattle.std.proofs.lemmas.List.{at_drop_more, at_drop_all, length-take}
+use Rattle.std.proofs.Common.{◌+◌, get_or, drop, Ok, Err, sym, refl, ap, ◌∙◌, ap₂}
+use Rattle.std.proofs.lemmas.List.{at_drop_more, at_drop_all}
 use Rattle.ring.specs.declared.fault.RingFault.TheVariants.{OfGrant}
 use Rattle.request.specs.Check.{miss}
 use Rattle.request.specs.Content.{listed}
 use Rattle.request.specs.declared.content.Span.{Span}
 use Rattle.connection.specs.Tables.{handles_of}
 use Rattle.connection.specs.declared.tables.Job.{Job}
-use Rattle.backend.specs.Segments.{released_all, pin_all, emptied}
+use Rattle.backend.specs.Segments.{released_all, pin_all}
 use Rattle.backend.proofs.InTurn.{pin_more, count_more, pin-refused, pinned_by}
 use Rattle.backend.proofs.segments.pin_segments.Goals as goal
 
 abbrev none : Span
 none = record { reference = 0; start = 0; length = 0 }
-
-pub pin_segment-requires : goal.pin_segment-requires
-pin_segment-requires c =
-    let table = c.args.parts.now.table in
-    let eleven : length table ≡ 11 = search rules in
-    let size : length c.front-spans.result.now ≡ min c.args.parts.now.count (length table) = ap length c.front-spans.ensures ∙ length-take c.args.parts.now.count table in
-    omega (arith, c.loop-span.invariant.0)
-
-pub loop-span-init : goal.loop-span-init
-loop-span-init c = (refl, ap (pin_all c.args.frames.now c.args.guest 0 (emptied c.args.job.now) c.args.grants.now) c.front-spans.ensures)
 
 pub loop-span-preserved : goal.loop-span-preserved
 loop-span-preserved c =

@@ -1,22 +1,12 @@
-use Rattle.std.proofs.Common.{◌≡◌, Ok, Err, sym, ap, ◌∙◌, subst, w16, to_z, of_z, rules, Bor}
+use Rattle.std.proofs.Common.{◌≡◌, Ok, Err, sym, ap, ◌∙◌, subst, w16, to_z, of_z, rules}
 use Rattle.std.proofs.lemmas.Result.{err_from_is_err_and}
-use Rattle.std.specs.Option.{option_map}
 use Rattle.device.specs.Meaning.{finishing}
 use Rattle.rules.specs.Refusal.{granting, after_ok}
-use Rattle.ring.specs.declared.fault.RingFault.TheVariants.{NoJob}
 use Rattle.connection.specs.Tables.{parts_of}
-use Rattle.connection.specs.declared.tables.Job.{Job}
 use Rattle.backend.specs.Move.{moving}
 use Rattle.backend.specs.Respond.{Responded}
-use Rattle.driver.proofs.Leaving.{given_job, ok_or_err, no_job_leaves, leaves_by, broken_leaves, finished-leaves, completed_by, status_some, refused_some, device_moved, memory_moved, not_moved, not_ended, ended}
+use Rattle.driver.proofs.Leaving.{given_job, leaves_by, broken_leaves, finished-leaves, completed_by, status_some, refused_some, device_moved, memory_moved, not_moved, not_ended, ended}
 use Rattle.driver.proofs.completing.complete.Goals as goal
-
-pub returns-in_err-job : goal.returns-in_err-job
-returns-in_err-job g c =
-    let none = ok_or_err c.job.result NoJob c.in_err-job.field-0.0 c.ok_or.result c.ok_or.ensures.value c.in_err-job.was in
-    let p = err_from_is_err_and c.from_residual.result c.from_residual.ensures.1 in
-    no_job_leaves g.D.Device.rules c.args.bay c.in-Some.ticket c.args.tables.now c.args.memory.now (g.D.Device.meaning c.args.device.now) _ c.in-Some.ensures
-    (sym (ap (option_map (λ (y : Bor Job). y.now)) none.0) ∙ c.job.ensures) (p.1 ∙ ap Err (p.2 ∙ none.1))
 
 pub returns-in_err-move_bytes : goal.returns-in_err-move_bytes
 returns-in_err-move_bytes g c =
