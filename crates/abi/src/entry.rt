@@ -19,7 +19,7 @@ pub const GTF_READING: u16 = 8;
 pub const GTF_WRITING: u16 = 16;
 
 /// By this entry its owner lends `frame` to the domain `domid`.
-#[derive(Clone, Copy)]
+#[derive(Clone, Copy, Debug, Default, PartialEq, Eq)]
 pub struct GrantEntry {
     pub flags: u16,
     pub domid: u16,

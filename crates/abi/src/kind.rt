@@ -9,7 +9,7 @@ use std::fmt;
 use std::str::FromStr;
 
 /// No kind has this name, or this number.
-#[derive(Clone, Copy)]
+#[derive(Clone, Copy, Debug, PartialEq, Eq)]
 pub struct NoKind;
 
 impl Kind {

@@ -69,7 +69,7 @@ impl Coded<16> for RingHeader {
 }
 
 /// What the requests of a ring are.
-#[derive(Clone, Copy)]
+#[derive(Clone, Copy, Debug, PartialEq, Eq)]
 pub enum Kind {
     Block,
     Send,

@@ -21,6 +21,7 @@ impl Events {
     }
 
     /// The port of the domain becomes pending.
+    #[tactic(auto, using(crate::proofs::Bits::one_bit))]
     pub fn mark(&mut self, domain: Domain, port: Port)
         ensures after { self.new ≡ marked domain.id port.number self.old }
         ensures only { Only port.number 1 (word self.old domain.id) (word self.new domain.id) }
@@ -29,6 +30,7 @@ impl Events {
     }
 
     /// The port of the domain is pending no more.
+    #[tactic(auto, using(crate::proofs::Bits::one_bit))]
     pub fn drop_mark(&mut self, domain: Domain, port: Port)
         ensures after { self.new ≡ dropped domain.id port.number self.old }
         ensures only { Only port.number 0 (word self.old domain.id) (word self.new domain.id) }

@@ -48,6 +48,7 @@ pub fn read_part(
 }
 
 /// Copies bytes into a part of a frame.
+#[tactic(auto, using(crate::proofs::Placing::put_is_placed, crate::proofs::Placing::placed_in_frame, crate::proofs::Placing::part_granted))]
 pub fn write_part(
     memory: &mut [u8],
     frame: u32,

@@ -16,17 +16,8 @@ impl Grants {
         ensures { result ≡ new_grants }
     {
         Grants {
-            entries: [GrantEntry {
-                flags: 0,
-                domid: 0,
-                frame: 0,
-            }; 256],
-            records: [Record {
-                readers: 0,
-                writers: 0,
-                frame: 0,
-                mapper: 0,
-            }; 256],
+            entries: [GrantEntry::default(); 256],
+            records: [Record::default(); 256],
             handles: [None; 512],
         }
     }

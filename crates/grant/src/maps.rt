@@ -1,8 +1,7 @@
 // Whether a domain may map or unmap, and what it has mapped.
 ghost use Rattle.std.specs.Prelude.{◌≡◌, ◌<◌, ◌≤◌, ◌^◌, length, IfSome};
 ghost use Rattle.rules.specs.Refusal.{refuse_first, granting};
-ghost use Rattle.std.specs.List.{list_any};
-ghost use Rattle.grant.specs.Tables.{place, entry_at, handles_of, lowest, in_use, pinned, weight, pins, of_frame, maps_frame, writes_frame};
+ghost use Rattle.grant.specs.Tables.{place, entry_at, handles_of, lowest, in_use, pinned, weight, pins, maps_frame, writes_frame};
 ghost use Rattle.grant.specs.Map.{mode_number, owner_rules, entry_says, map_verdict, grant_of, unmap_verdict};
 
 use crate::fault::GrantFault;
@@ -41,21 +40,14 @@ fn pins_of(records: &[Record], frame: u32) -> u64
     records.iter().map(|record| record.weight(frame)).sum()
 }
 
-// Whether the handle maps the frame, and for writing if that is asked.
-fn of_frame(handle: &Option<Mapping>, writing: bool, frame: u32) -> bool
-    ensures { result ≡ of_frame writing frame handle.now }
-{
-    handle.is_some_and(|mapping| mapping.frame == frame && (!writing || mapping.mode.writes()))
-}
-
 // The owner that a map of the domain names: a domain, and another.
 fn other_domain(domain: Domain, number: u32) -> Result<Domain, GrantFault>
     ensures { granting (λ d. d.id) result ≡ refuse_first (owner_rules domain.id number) (Ok number) }
 {
-    match Domain::try_from(number) {
-        Ok(owner) if owner.id != domain.id => Ok(owner),
-        _ => Err(GrantFault::BadOwner),
-    }
+    Domain::try_from(number)
+        .ok()
+        .filter(|owner| owner.id != domain.id)
+        .ok_or(GrantFault::BadOwner)
 }
 
 impl Grants {
@@ -66,27 +58,22 @@ impl Grants {
         pins_of(&self.records, frame)
     }
 
-    // Whether a handle of the domain maps the frame, and for writing if that is asked.
-    fn any_of_frame(&self, domain: Domain, writing: bool, frame: u32) -> bool
-        ensures { result ≡ list_any (of_frame writing frame) (handles_of domain.id self.now.handles) }
-    {
-        self.handles_of(domain)
-            .iter()
-            .any(|handle| of_frame(handle, writing, frame))
-    }
-
     /// Whether the domain has the frame mapped.
     pub fn maps_frame(&self, domain: Domain, frame: u32) -> bool
         ensures { result ≡ maps_frame self.now domain.id frame }
     {
-        self.any_of_frame(domain, false, frame)
+        self.handles_of(domain).iter().any(|handle| {
+            handle.is_some_and(|mapping| mapping.frame == frame)
+        })
     }
 
     /// Whether the domain has the frame mapped for writing.
     pub fn writes_frame(&self, domain: Domain, frame: u32) -> bool
         ensures { result ≡ writes_frame self.now domain.id frame }
     {
-        self.any_of_frame(domain, true, frame)
+        self.handles_of(domain).iter().any(|handle| {
+            handle.is_some_and(|mapping| mapping.frame == frame && mapping.mode.writes())
+        })
     }
 
     // The lowest free handle of the domain.

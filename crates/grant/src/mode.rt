@@ -26,6 +26,6 @@ impl Mode {
     pub fn writes(self) -> bool
         ensures { result ≡ writes self }
     {
-        matches!(self, Mode::Write)
+        self == Mode::Write
     }
 }

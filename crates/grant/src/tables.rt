@@ -6,7 +6,7 @@ use abi::GrantEntry;
 use frame::Domain;
 
 /// What the host keeps beside each entry; no guest writes it.
-#[derive(Clone, Copy, Debug, PartialEq, Eq)]
+#[derive(Clone, Copy, Debug, Default, PartialEq, Eq)]
 pub struct Record {
     pub readers: u32,
     pub writers: u32,

@@ -6,6 +6,7 @@ ghost use Rattle.grant_law.specs.Sound.{StaysSound};
 
 /// The tables are sound at first, and stay so as entries are written, frames are settled and released, and mappings
 /// begin and end. So no count wraps, and a frame's pins are the handles in use on it.
+#[tactic(auto, using(crate::proofs::Steps::stays_sound))]
 pub fn tables_stay_sound()
     ensures { StaysSound }
 {}

@@ -7,10 +7,12 @@ use abi::{Errno, GrantStatus, HouseStatus};
 use device::DeviceFault;
 use grant::GrantFault;
 
-/// The status of a request whose operation there is not, and of one that is refused for anything else.
-const NOT_SUPPORTED: i16 = -2;
-
-const REFUSED: i16 = -1;
+/// Xen's blkif.h: BLKIF_RSP_EOPNOTSUPP, where there is no such operation, and BLKIF_RSP_ERROR, for all else.
+#[derive(Clone, Copy)]
+enum ResponseStatus {
+    NotSupported = -2,
+    Refused = -1,
+}
 
 /// The layer in which a fault was met.
 #[derive(Clone, Copy, PartialEq, Eq, Debug)]
@@ -21,7 +23,7 @@ pub enum Layer {
 }
 
 /// The faults of the layer of rings.
-#[derive(Clone, Copy)]
+#[derive(Clone, Copy, Debug, PartialEq, Eq)]
 pub enum RingFault {
     BadKind,
     NoConnection,
@@ -61,10 +63,11 @@ impl RingFault {
     pub fn status(self) -> i16
         ensures { result ≡ status_of self }
     {
-        match self {
-            RingFault::BadOperation => NOT_SUPPORTED,
-            _ => REFUSED,
-        }
+        let status = match self {
+            RingFault::BadOperation => ResponseStatus::NotSupported,
+            _ => ResponseStatus::Refused,
+        };
+        status as i16
     }
 
     /// The number of the fault.

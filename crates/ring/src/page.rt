@@ -53,6 +53,7 @@ fn page_of(memory: &[u8], page: u32) -> Result<&[u8; PAGE_SIZE], FrameFault>
 }
 
 /// The request in the slot that an index uses. The slot is copied out once, and only the copy is looked at.
+#[tactic(auto, using(crate::proofs::InPage::request_in_page))]
 pub fn copy_request(memory: &[u8], page: u32, kind: Kind, index: u32) -> Result<Request, FrameFault>
     ensures { result ≡ request_in memory.now page kind index }
 {
