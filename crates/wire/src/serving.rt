@@ -4,7 +4,7 @@ ghost use Rattle.device.specs.Meaning.{next_order};
 ghost use Rattle.wire.specs.Fit.{wire_fits};
 ghost use Rattle.wire.specs.Hand.{open_way};
 ghost use Rattle.wire.specs.Waiting.{waiting_of, holding_of, room_of, contents_of};
-ghost use Rattle.wire.specs.State.{State, state, wire_rules, wire_laws, wire_status, waiting_after, holding_after};
+ghost use Rattle.wire.specs.State.{State, state, wire_rules, wire_laws, wire_ready, wire_status, waiting_after, holding_after};
 
 use crate::Wire;
 use crate::hand::CAPACITY;
@@ -37,12 +37,27 @@ fn finish(packets: &mut Packets<'_>, order: Order) -> i16
 }
 
 impl<'a> Wire<'a> {
+    /// Whether the order is ready: an inward one while a packet waits, an outward one while there is
+    /// room for one more.
+    fn is_ready(&self, order: &Order) -> bool
+        ensures { result ≡ wire_ready (state self.now) order.now }
+    {
+        let waiting = self.packets.waiting();
+        match order.direction {
+            Direction::Inward => waiting > 0,
+            Direction::Outward => waiting < self.packets.room(),
+        }
+    }
+
     /// The order whose turn it is.
     fn next(&self) -> Option<Order>
         ensures { result ≡ next_order wire_rules (state self.now) }
     {
-        let waiting = self.packets.waiting();
-        self.hand.next(waiting > 0, waiting < self.packets.room())
+        self.hand
+            .orders()
+            .iter()
+            .find(|order| self.is_ready(order))
+            .copied()
     }
 }
 
