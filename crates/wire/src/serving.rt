@@ -1,5 +1,5 @@
 // The wire as a device.
-ghost use Rattle.std.specs.Prelude.{◌≡◌, ◌<◌, true, length, nat_lt};
+ghost use Rattle.std.specs.Prelude.{◌≡◌, ◌<◌, true, length, nat_lt, IfSome};
 ghost use Rattle.device.specs.Meaning.{next_order};
 ghost use Rattle.wire.specs.Fit.{wire_fits};
 ghost use Rattle.wire.specs.Hand.{open_way};
@@ -51,7 +51,8 @@ impl<'a> Wire<'a> {
 
     /// The order whose turn it is.
     fn next(&self) -> Option<Order>
-        ensures { result ≡ next_order wire_rules (state self.now) }
+        ensures is { result ≡ next_order wire_rules (state self.now) }
+        ensures ready { IfSome result (λ o. (wire_ready (state self.now) o ≡ true) × (wire_fits o.direction o.place o.length ≡ true)) }
     {
         self.hand
             .orders()
@@ -110,6 +111,7 @@ impl<'a> Device for Wire<'a> {
         Ok(())
     }
 
+    #[tactic(auto, using(crate::proofs::InHand::fit_others))]
     fn done(&mut self, ticket: u8) -> Result<i16, DeviceFault> {
         let order = on_turn(self.next(), ticket)?;
         let status = finish(&mut self.packets, order);
