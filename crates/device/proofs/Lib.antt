@@ -1,4 +1,2 @@
 pub mod Rows
-pub mod Handed
-pub mod InTurn
 pub mod Served

@@ -20,9 +20,7 @@ fn end_within(size: usize, at: u32, part: Part) -> Result<usize, DeviceFault>
     if end > size {
         return Err(DeviceFault::NoFit);
     }
-    if at.checked_add(part.length).is_none() {
-        return Err(DeviceFault::NoFit);
-    }
+    at.checked_add(part.length).ok_or(DeviceFault::NoFit)?;
     Ok(end)
 }
 

@@ -3,10 +3,9 @@ use device::{Device, Direction, Order, Part, drain_parts, fill_parts};
 use disk::Disk;
 
 // A disk of two sectors whose bytes are 1 up to byte 511 and 2 from byte 512 on.
-fn fill_sectors(memory: &mut [u8]) {
-    for (i, b) in memory.iter_mut().enumerate() {
-        *b = if i < 512 { 1 } else { 2 };
-    }
+fn fill_sectors(memory: &mut [u8; 1024]) {
+    memory[..512].fill(1);
+    memory[512..].fill(2);
 }
 
 // An order of 1,024 bytes inward. Three bytes of the order go to byte 5 of the memory, the next 510 to bytes 10 to 519:

@@ -30,9 +30,11 @@ impl<'a> Sectors<'a> {
     }
 
     /// Copies the part over the bytes from `at` on.
+    #[tactic(auto, using(device::proofs::Rows::row_written))]
     pub(crate) fn write(&mut self, at: usize, part: &[u8])
         requires { at + length part.now ≤ length self.old.bytes.now }
-        ensures { self.new.bytes.now ≡ sets self.old.bytes.now at part.now }
+        ensures written { self.new.bytes.now ≡ sets self.old.bytes.now at part.now }
+        ensures size { length self.new.bytes.now ≡ length self.old.bytes.now }
     {
         let end = at + part.len();
         self.bytes[at..end].copy_from_slice(part);

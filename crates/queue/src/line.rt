@@ -72,6 +72,7 @@ impl<'a, T: Copy> Queue<'a, T> {
 
     /// The items in place, the oldest first: those that stand up to the last slot, and those from
     /// the first slot on.
+    #[tactic(auto, using(crate::proofs::Turns::items_two, crate::proofs::Turns::take_own))]
     pub fn as_slices(&self) -> (&[T], &[T])
         ensures { result.0.now ++ result.1.now ≡ items self.now }
     {

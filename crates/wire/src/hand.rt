@@ -1,12 +1,12 @@
 // The orders in hand, in order of acceptance.
 ghost use Rattle.std.specs.Prelude.{◌≡◌, ◌≤◌, cond, [], length, Ok, Err, ◌==◌};
 ghost use Rattle.queue.specs.Line.{with_last};
-ghost use Rattle.device.specs.Meaning.{in_hand, others, first_of};
+ghost use Rattle.device.specs.Meaning.{in_hand, others};
 ghost use Rattle.device.specs.declared.fault.DeviceFault.TheVariants.{Full};
-ghost use Rattle.wire.specs.Hand.{most_orders, orders_of, open_way};
+ghost use Rattle.wire.specs.Hand.{most_orders, orders_of};
 
 use arrayvec::ArrayVec;
-use device::{DeviceFault, Direction, Order};
+use device::{DeviceFault, Order};
 
 /// Orders in hand, at most.
 pub const CAPACITY: usize = 16;
@@ -17,16 +17,6 @@ pub struct Hand {
     orders: ArrayVec<Order, CAPACITY>,
 }
 
-/// Whether a way is open, where it is said which are.
-fn is_open(direction: Direction, inward: bool, outward: bool) -> bool
-    ensures { result ≡ open_way inward outward direction }
-{
-    match direction {
-        Direction::Inward => inward,
-        Direction::Outward => outward,
-    }
-}
-
 impl Hand {
     /// No order.
     pub(crate) fn new() -> Hand
@@ -35,6 +25,13 @@ impl Hand {
         Hand {
             orders: ArrayVec::new(),
         }
+    }
+
+    /// The orders in place, in order of acceptance.
+    pub(crate) fn orders(&self) -> &[Order]
+        ensures { result.now ≡ orders_of self.now }
+    {
+        &self.orders
     }
 
     pub(crate) fn len(&self) -> usize
@@ -49,16 +46,6 @@ impl Hand {
         ensures { result ≡ in_hand ticket (orders_of self.now) }
     {
         self.orders.iter().any(|order| order.ticket == ticket)
-    }
-
-    /// The first order in hand whose way is open.
-    pub(crate) fn next(&self, inward: bool, outward: bool) -> Option<Order>
-        ensures { result ≡ first_of (λ o. open_way inward outward o.direction) (orders_of self.now) }
-    {
-        self.orders
-            .iter()
-            .find(|order| is_open(order.direction, inward, outward))
-            .copied()
     }
 
     /// Puts an order behind the others.

@@ -56,6 +56,7 @@ impl<'a> Packets<'a> {
     }
 
     /// Copies the part into the holding area, from `at` on.
+    #[tactic(auto, using(device::proofs::Rows::row_written))]
     pub(crate) fn hold(&mut self, at: usize, part: &[u8])
         requires { at + length part.now ≤ longest }
         ensures { contents_of self.new ≡ record (contents_of self.old) { holding = sets (holding_of self.old) at part.now } }

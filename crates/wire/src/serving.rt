@@ -1,10 +1,10 @@
 // The wire as a device.
-ghost use Rattle.std.specs.Prelude.{◌≡◌, ◌<◌, true, length, nat_lt};
+ghost use Rattle.std.specs.Prelude.{◌≡◌, ◌<◌, true, length, nat_lt, IfSome};
 ghost use Rattle.device.specs.Meaning.{next_order};
 ghost use Rattle.wire.specs.Fit.{wire_fits};
 ghost use Rattle.wire.specs.Hand.{open_way};
 ghost use Rattle.wire.specs.Waiting.{waiting_of, holding_of, room_of, contents_of};
-ghost use Rattle.wire.specs.State.{State, state, wire_rules, wire_laws, wire_status, waiting_after, holding_after};
+ghost use Rattle.wire.specs.State.{State, state, wire_rules, wire_laws, wire_ready, wire_status, waiting_after, holding_after};
 
 use crate::Wire;
 use crate::hand::CAPACITY;
@@ -37,12 +37,28 @@ fn finish(packets: &mut Packets<'_>, order: Order) -> i16
 }
 
 impl<'a> Wire<'a> {
-    /// The order whose turn it is.
-    fn next(&self) -> Option<Order>
-        ensures { result ≡ next_order wire_rules (state self.now) }
+    /// Whether the order is ready: an inward one while a packet waits, an outward one while there is
+    /// room for one more.
+    fn is_ready(&self, order: &Order) -> bool
+        ensures { result ≡ wire_ready (state self.now) order.now }
     {
         let waiting = self.packets.waiting();
-        self.hand.next(waiting > 0, waiting < self.packets.room())
+        match order.direction {
+            Direction::Inward => waiting > 0,
+            Direction::Outward => waiting < self.packets.room(),
+        }
+    }
+
+    /// The order whose turn it is.
+    fn next(&self) -> Option<Order>
+        ensures is { result ≡ next_order wire_rules (state self.now) }
+        ensures ready { IfSome result (λ o. (wire_ready (state self.now) o ≡ true) × (wire_fits o.direction o.place o.length ≡ true)) }
+    {
+        self.hand
+            .orders()
+            .iter()
+            .find(|order| self.is_ready(order))
+            .copied()
     }
 }
 
@@ -95,6 +111,7 @@ impl<'a> Device for Wire<'a> {
         Ok(())
     }
 
+    #[tactic(auto, using(crate::proofs::InHand::fit_others))]
     fn done(&mut self, ticket: u8) -> Result<i16, DeviceFault> {
         let order = on_turn(self.next(), ticket)?;
         let status = finish(&mut self.packets, order);
