@@ -4,6 +4,7 @@ ghost use Rattle.device.specs.Fault.{fault_number};
 ghost use Rattle.devicectl.specs.Acts.{answer_to, device_after, bytes_after};
 
 use device::{Device, DeviceFault, Direction, Order};
+use std::fmt;
 
 /// What a line asks of the device.
 #[derive(Clone, Copy)]
@@ -24,6 +25,31 @@ pub(crate) enum Answer {
     Flag(bool),
     Ticket(Option<u8>),
     Bytes,
+}
+
+/// An answer as it is printed, with the bytes that were filled.
+#[derive(Clone, Copy)]
+pub(crate) struct AnswerText<'a> {
+    pub(crate) answer: Answer,
+    pub(crate) bytes: &'a [u8],
+}
+
+impl<'a> fmt::Display for AnswerText<'a> {
+    fn fmt<W: fmt::Write>(&self, f: &mut fmt::Formatter<W>) -> fmt::Result {
+        match self.answer {
+            Answer::Number(n) => write!(f, "{n}"),
+            Answer::Flag(true) => write!(f, "yes"),
+            Answer::Flag(false) => write!(f, "no"),
+            Answer::Ticket(Some(ticket)) => write!(f, "{ticket}"),
+            Answer::Ticket(None) => write!(f, "none"),
+            Answer::Bytes => {
+                for b in self.bytes {
+                    write!(f, "{b:02x}")?;
+                }
+                Ok(())
+            }
+        }
+    }
 }
 
 // The answer to what the device refuses.

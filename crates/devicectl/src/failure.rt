@@ -1,4 +1,5 @@
 // Why devicectl ends with status 1.
+use console::Arguments;
 use std::alloc::AllocError;
 use std::io;
 use thiserror::Error;
@@ -11,8 +12,8 @@ pub(crate) enum Failure {
     NoDevice,
     #[error("{0}")]
     Line(&'static str),
-    #[error("expected no arguments, or --help; the script is read from standard input")]
-    Arguments,
+    #[error(transparent)]
+    Arguments(#[from] Arguments),
     #[error(transparent)]
     System(#[from] io::Error),
     #[error("out of memory")]

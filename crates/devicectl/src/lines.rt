@@ -1,6 +1,7 @@
 // The lines of the script: words, numbers and bytes.
 use crate::act::Command;
 use crate::failure::Failure;
+use console::FromLine;
 use device::{Direction, Order};
 use hex::FromHexError;
 use std::alloc::{AllocError, Global};
@@ -62,8 +63,27 @@ fn zeros(heap: Global, size: u32) -> Result<Vec<u8>, Failure> {
     Ok(vec![in heap; 0u8; size as usize]?)
 }
 
-/// What the words of a line ask for.
-pub(crate) fn parse(heap: Global, words: &[&str]) -> Result<Line, Failure> {
+/// The words of a line, up to a comment.
+pub(crate) fn words(heap: Global, text: &str) -> Result<Vec<&str>, AllocError> {
+    text.split_whitespace()
+        .take_while(|word| !word.starts_with('#'))
+        .collect(heap)
+}
+
+impl FromLine for Line {
+    type Err = Failure;
+
+    fn from_line(heap: Global, line: &str) -> Result<Option<Line>, Failure> {
+        let words = words(heap, line)?;
+        if words.is_empty() {
+            return Ok(None);
+        }
+        parse(heap, words.as_slice()).map(Some)
+    }
+}
+
+// What the words of a line ask for.
+fn parse(heap: Global, words: &[&str]) -> Result<Line, Failure> {
     let none = Vec::new(heap);
     match words {
         ["disk", sectors] => Ok(Line::Make(Start::Disk(parsed(sectors, SIZE)?))),

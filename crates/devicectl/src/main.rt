@@ -6,17 +6,19 @@ ghost use Rattle.devicectl.specs.Input.{ReadsOn};
 mod act;
 mod failure;
 mod lines;
-mod script;
 
-use act::{Answer, act};
-use device::{Device, Order};
+use act::{AnswerText, act};
+use console::wants_usage;
+use device::{Device, DeviceFault, Order};
 use disk::Disk;
+use disk::sectors::SECTOR;
 use failure::Failure;
-use lines::{Line, Start};
-use script::{Script, words};
+use lines::{Line, Start, words};
 use std::env;
 use std::process::ExitCode;
 use wire::{Packet, Wire};
+
+type Script = console::Script<Line>;
 
 const USAGE: &str = "usage: devicectl < SCRIPT
 Drives a device by the lines of a script, and prints each line with its answer.
@@ -27,51 +29,30 @@ Drives a device by the lines of a script, and prints each line with its answer.
   done TICKET
 Numbers are decimal, bytes hexadecimal; a # begins a comment.";
 
-const SECTOR: usize = 512;
-
 // A disk of more sectors than this is refused, so no larger memory is needed to be refused.
 const TOO_MANY: u32 = 129;
 
 // Prints the words of the line with single blanks between, and the arrow.
-fn echo(rt: &HostRuntime, script: &Script) -> Result<(), Failure> {
-    let words = words(rt.alloc(), script.text.as_str())?;
+fn echo(script: &Script) -> Result<(), Failure> {
+    let words = words(script.rt.alloc(), script.text.as_str())?;
     for word in &words {
-        print!(rt; "{word} ")?;
+        print!(script.rt; "{word} ")?;
     }
-    Ok(print!(rt; "-> ")?)
-}
-
-fn print_answer(rt: &HostRuntime, answer: Answer, bytes: &[u8]) -> Result<(), Failure> {
-    match answer {
-        Answer::Number(n) => println!(rt; "{n}")?,
-        Answer::Flag(yes) => println!(rt; "{}", if yes { "yes" } else { "no" })?,
-        Answer::Ticket(Some(ticket)) => println!(rt; "{ticket}")?,
-        Answer::Ticket(None) => println!(rt; "none")?,
-        Answer::Bytes => {
-            for b in bytes {
-                print!(rt; "{b:02x}")?;
-            }
-            println!(rt; "")?;
-        }
-    }
-    Ok(())
+    Ok(print!(script.rt; "-> ")?)
 }
 
 // Drives the device until another is asked for, or the script ends.
-fn drive<D: Device>(
-    rt: &HostRuntime,
-    script: &mut Script,
-    device: &mut D,
-) -> Result<Option<Start>, Failure>
+fn drive<D: Device>(script: &mut Script, device: &mut D) -> Result<Option<Start>, Failure>
     ensures { ReadsOn script.old result script.new }
 {
     while let Some(line) = script.next() {
         match line? {
             Line::Make(start) => return Ok(Some(start)),
             Line::Act(command, mut bytes) => {
-                echo(rt, script)?;
+                echo(script)?;
                 let answer = act(device, command, bytes.as_mut_slice());
-                print_answer(rt, answer, bytes.as_slice())?;
+                let bytes = bytes.as_slice();
+                println!(script.rt; "{}", AnswerText { answer, bytes })?;
             }
         }
     }
@@ -89,64 +70,62 @@ fn wait(script: &mut Script) -> Result<Option<Start>, Failure>
     }
 }
 
-fn with_disk(rt: &HostRuntime, script: &mut Script, sectors: u32) -> Result<Option<Start>, Failure>
+// Prints what the check of a new device says, and drives the device if it is good.
+fn try_device<D: Device>(
+    script: &mut Script,
+    checked: Result<(), DeviceFault>,
+    device: &mut D,
+) -> Result<Option<Start>, Failure>
     ensures { ReadsOn script.old result script.new }
 {
-    echo(rt, script)?;
-    let mut memory = vec![in rt.alloc(); 0u8; sectors.min(TOO_MANY) as usize * SECTOR]?;
-    let mut slots = [Order::default(); 4];
-    if let Err(fault) = disk::check(memory.as_slice(), &slots) {
-        println!(rt; "{}", fault.number())?;
+    if let Err(fault) = checked {
+        println!(script.rt; "{}", fault.number())?;
         return wait(script);
     }
-    println!(rt; "0")?;
-    let mut disk = Disk::new(memory.as_mut_slice(), &mut slots);
-    drive(rt, script, &mut disk)
+    println!(script.rt; "0")?;
+    drive(script, device)
 }
 
-fn with_wire(rt: &HostRuntime, script: &mut Script) -> Result<Option<Start>, Failure>
+// Makes the device that the line asks for.
+fn start(script: &mut Script, start: Start) -> Result<Option<Start>, Failure>
     ensures { ReadsOn script.old result script.new }
 {
-    echo(rt, script)?;
-    let mut slots = [Packet::new(); 8];
-    if let Err(fault) = wire::check(&slots) {
-        println!(rt; "{}", fault.number())?;
-        return wait(script);
-    }
-    println!(rt; "0")?;
-    let mut wire = Wire::new(&mut slots);
-    drive(rt, script, &mut wire)
-}
-
-// Whether only the usage was asked for.
-fn wants_usage(rt: &HostRuntime) -> Result<bool, Failure> {
-    match env::args(rt)?.nth(1) {
-        None => Ok(false),
-        Some(word) if word.as_str() == "--help" => Ok(true),
-        Some(_) => Err(Failure::Arguments),
+    echo(script)?;
+    match start {
+        Start::Disk(sectors) => {
+            let size = sectors.min(TOO_MANY) as usize * SECTOR;
+            let mut memory = vec![in script.rt.alloc(); 0u8; size]?;
+            let mut slots = [Order::default(); 4];
+            let checked = disk::check(memory.as_slice(), &slots);
+            let mut disk = Disk::new(memory.as_mut_slice(), &mut slots);
+            try_device(script, checked, &mut disk)
+        }
+        Start::Wire => {
+            let mut slots = [Packet::new(); 8];
+            let checked = wire::check(&slots);
+            try_device(script, checked, &mut Wire::new(&mut slots))
+        }
     }
 }
 
-fn run(rt: &HostRuntime, script: &mut Script) -> Result<(), Failure> {
-    if wants_usage(rt)? {
-        return Ok(println!(rt; "{USAGE}")?);
+fn run(script: &mut Script) -> Result<(), Failure> {
+    let first = env::args(&script.rt)?.nth(1);
+    if wants_usage(first.as_deref())? {
+        return Ok(println!(script.rt; "{USAGE}")?);
     }
     let mut next = wait(script)?;
-    while let Some(start) = next {
-        next = match start {
-            Start::Disk(sectors) => with_disk(rt, script, sectors)?,
-            Start::Wire => with_wire(rt, script)?,
-        };
+    while let Some(device) = next {
+        next = start(script, device)?;
     }
     Ok(())
 }
 
 fn main(rt: HostRuntime) -> ExitCode {
-    let mut script = Script::new(&rt);
-    match run(&rt, &mut script) {
+    let mut script = Script::new(rt);
+    match run(&mut script) {
         Ok(()) => ExitCode::SUCCESS,
         Err(failure) => {
-            let n = script.number;
+            let n = script.read;
             let _ = match n {
                 0 => eprintln!(rt; "devicectl: {failure}"),
                 _ => eprintln!(rt; "devicectl: line {n}: {failure}"),

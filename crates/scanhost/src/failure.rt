@@ -1,4 +1,5 @@
 // Why scanhost ends with status 1.
+use console::Arguments;
 use script::LineError;
 use std::alloc::AllocError;
 use std::io;
@@ -12,8 +13,8 @@ pub(crate) enum Failure {
     NotStarted,
     #[error("the host was started: expected a call, and no disk or start")]
     Late,
-    #[error("expected no arguments, or --help; the script is read from standard input")]
-    Arguments,
+    #[error(transparent)]
+    Arguments(#[from] Arguments),
     #[error(transparent)]
     System(#[from] io::Error),
     #[error("out of memory")]

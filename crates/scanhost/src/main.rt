@@ -7,6 +7,7 @@ mod input;
 mod running;
 mod setup;
 
+use console::wants_usage;
 use failure::Failure;
 use input::Script;
 use std::env;
@@ -34,31 +35,23 @@ load follow in hexadecimal.
   disconnect CONNECTION
 Numbers are decimal, bytes hexadecimal; a # begins a comment.";
 
-// Whether only the usage was asked for.
-fn wants_usage(rt: &HostRuntime) -> Result<bool, Failure> {
-    match env::args(rt)?.nth(1) {
-        None => Ok(false),
-        Some(word) if word.as_str() == "--help" => Ok(true),
-        Some(_) => Err(Failure::Arguments),
+fn run(script: &mut Script) -> Result<(), Failure> {
+    let first = env::args(&script.rt)?.nth(1);
+    if wants_usage(first.as_deref())? {
+        return Ok(println!(script.rt; "{USAGE}")?);
     }
-}
-
-fn run(rt: &HostRuntime, script: &mut Script) -> Result<(), Failure> {
-    if wants_usage(rt)? {
-        return Ok(println!(rt; "{USAGE}")?);
-    }
-    match setup::start(rt, script)? {
-        Some(mut machine) => running::drive(rt, script, &mut machine),
+    match setup::start(script)? {
+        Some(mut machine) => running::drive(script, &mut machine),
         None => Ok(()),
     }
 }
 
 fn main(rt: HostRuntime) -> ExitCode {
-    let mut script = Script::new(&rt);
-    match run(&rt, &mut script) {
+    let mut script = Script::new(rt);
+    match run(&mut script) {
         Ok(()) => ExitCode::SUCCESS,
         Err(failure) => {
-            let n = script.number;
+            let n = script.came;
             let _ = match n {
                 0 => eprintln!(rt; "scanhost: {failure}"),
                 _ => eprintln!(rt; "line {n}: {failure}"),

@@ -1,6 +1,6 @@
 // The calls, made one after the other on the machine.
 use crate::failure::Failure;
-use crate::input::Script;
+use crate::input::{Asked, Script, print_answer};
 use crate::setup::Machine;
 use answer::{Answer, HostFault, parts_of};
 use device::{Device, Order};
@@ -43,7 +43,6 @@ fn filled<'a>(
 
 // Makes the call of a command, and prints its line with the answer.
 fn make<B: Device, N: Device>(
-    rt: &HostRuntime,
     script: &Script,
     host: &mut Host,
     memory: &mut [u8],
@@ -54,28 +53,24 @@ fn make<B: Device, N: Device>(
     let mut buffer = [0u8; FRAME_SIZE];
     let call = call_of(command)?;
     let answer = host.call(memory, block, net, &call, &mut buffer);
-    script.answer(rt, parts_of(answer), filled(&call, answer, &buffer))
+    print_answer(script, parts_of(answer), filled(&call, answer, &buffer))
 }
 
 /// Makes the script's calls until it ends, with a disk in bay 0 and the wire in bay 1.
-pub(crate) fn drive(
-    rt: &HostRuntime,
-    script: &mut Script,
-    machine: &mut Machine,
-) -> Result<(), Failure> {
+pub(crate) fn drive(script: &mut Script, machine: &mut Machine) -> Result<(), Failure> {
     let mut orders = [Order::default(); 4];
     let mut packets = [Packet::new(); 8];
     let mut disk = Disk::new(machine.disk.as_mut_slice(), &mut orders);
     let mut wire = Wire::new(&mut packets);
-    while let Some(command) = script.next() {
+    while let Some(asked) = script.next() {
+        let Asked(command) = asked?;
         make(
-            rt,
             script,
             &mut machine.host,
             machine.memory.as_mut_slice(),
             &mut disk,
             &mut wire,
-            &command?,
+            &command,
         )?;
     }
     Ok(())

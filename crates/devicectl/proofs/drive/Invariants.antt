@@ -1,5 +1,5 @@
 use Rattle.std.proofs.Common.{◌≤◌}
-use Rattle.devicectl.specs.Input.{lines_ahead}
+use Rattle.console.specs.Reading.{lines_ahead}
 use Rattle.devicectl.proofs.drive.Given as goal
 
 abbrev pub invariant-loop-line : goal.invariant-loop-line

@@ -1,6 +1,6 @@
 use Rattle.std.proofs.Common.{◌+◌}
 use Rattle.rules.specs.Refusal.{if_some}
-use Rattle.devicectl.specs.Input.{lines_ahead}
+use Rattle.console.specs.Reading.{lines_ahead}
 use Rattle.devicectl.proofs.run.Given as goal
 
 -- the lines after the one that makes a device, and nothing at the script's end

@@ -1,6 +1,6 @@
-use Rattle.std.specs.Io.Iter.{lines_left}
+use Rattle.console.specs.Reading.{lines_ahead}
 use Rattle.scanhost.proofs.running.drive.Given as goal
 
 -- the lines that may still come
-abbrev pub decreases-loop-command : goal.decreases-loop-command
-decreases-loop-command l = lines_left l.script.lines
+abbrev pub decreases-loop-asked : goal.decreases-loop-asked
+decreases-loop-asked l = lines_ahead l.script
