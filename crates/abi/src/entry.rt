@@ -1,5 +1,5 @@
 // The grant entry, Xen's struct grant_entry_v1.
-ghost use Rattle.std.specs.Prelude.{◌≡◌, refl};
+ghost use Rattle.std.specs.Prelude.{◌≡◌, ◌⊎◌, ◌/◌, ◌%◌, ◌==◌, refl};
 ghost use Rattle.abi.specs.Entry.{grant_entry, permits, read_only, reading, writing};
 
 use layout::Coded;
@@ -65,20 +65,28 @@ impl GrantEntry {
     pub fn is_read_only(self) -> bool
         ensures { result ≡ read_only self.flags }
     {
-        self.flags & GTF_READONLY != 0
+        self.has(GTF_READONLY)
     }
 
     /// Whether the entry is marked as mapped.
     pub fn is_reading(self) -> bool
         ensures { result ≡ reading self.flags }
     {
-        self.flags & GTF_READING != 0
+        self.has(GTF_READING)
     }
 
     /// Whether the entry is marked as mapped for writing.
     pub fn is_writing(self) -> bool
         ensures { result ≡ writing self.flags }
     {
-        self.flags & GTF_WRITING != 0
+        self.has(GTF_WRITING)
+    }
+
+    // Whether a flag is set, each of which is one bit.
+    fn has(self, flag: u16) -> bool
+        requires { (flag ≡ 4) ⊎ ((flag ≡ 8) ⊎ (flag ≡ 16)) }
+        ensures { result ≡ (self.flags / flag % 2 == 1) }
+    {
+        self.flags & flag != 0
     }
 }

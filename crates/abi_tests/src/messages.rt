@@ -1,9 +1,12 @@
 // Each message, decoded by the codec and by the decoder built apart, and written again.
+ghost use Rattle.std.specs.Prelude.{◌≤◌};
+
 use crate::apart::*;
 use abi::{GrantEntry, RingHeader};
 use blkif::{BlockRequest, BlockResponse};
 use layout::Coded;
 use netif::{ReceiveRequest, ReceiveResponse, SendRequest, SendResponse};
+use std::process::Abort;
 
 const ENTRY: [Field; 3] = [(0, 2), (2, 2), (4, 4)];
 
@@ -59,121 +62,107 @@ const RECEIVE_REQUEST: [Field; 2] = [(0, 2), (4, 4)];
 
 const RECEIVE_RESPONSE: [Field; 4] = [(0, 2), (2, 2), (4, 2), (6, 2)];
 
+// Decodes each test message, has its fields compared with those of the decoder built apart, and writes it again.
+fn each_sample<M: Coded<N> + Copy, const N: usize, F: Fn(usize, &M, &[u8])>(
+    rt: &impl Abort,
+    fields: &[Field],
+    compare: F,
+)
+    requires callable { F.IsAlwaysCallable compare }
+    requires short { N ≤ 4096 }
+{
+    for which in 0..samples(fields) {
+        let mut b = [0u8; N];
+        fill(&mut b, which, fields);
+        let m = M::decode(&b);
+        compare(which, &m, &b);
+        check_covered(rt, which, &b, &m.encode(), fields);
+    }
+}
+
 #[test]
 fn entries(rt: HostRuntime) {
-    for which in 0..samples(&ENTRY) {
-        let mut b = [0u8; 8];
-        fill(&mut b, which, &ENTRY);
-        let m = GrantEntry::decode(&b);
-        assert_eq!(rt; u64::from(m.flags), value(&b, (0, 2)), "{which}");
-        assert_eq!(rt; u64::from(m.domid), value(&b, (2, 2)), "{which}");
-        assert_eq!(rt; u64::from(m.frame), value(&b, (4, 4)), "{which}");
-        check_covered(&rt, which, &b, &m.encode(), &ENTRY);
-    }
+    each_sample(&rt, &ENTRY, |which, m: &GrantEntry, b| {
+        assert_eq!(rt; u64::from(m.flags), value(b, (0, 2)), "{which}");
+        assert_eq!(rt; u64::from(m.domid), value(b, (2, 2)), "{which}");
+        assert_eq!(rt; u64::from(m.frame), value(b, (4, 4)), "{which}");
+    });
 }
 
 #[test]
 fn headers(rt: HostRuntime) {
-    for which in 0..samples(&HEADER) {
-        let mut b = [0u8; 16];
-        fill(&mut b, which, &HEADER);
-        let m = RingHeader::decode(&b);
-        assert_eq!(rt; u64::from(m.req_prod), value(&b, (0, 4)), "{which}");
-        assert_eq!(rt; u64::from(m.req_event), value(&b, (4, 4)), "{which}");
-        assert_eq!(rt; u64::from(m.rsp_prod), value(&b, (8, 4)), "{which}");
-        assert_eq!(rt; u64::from(m.rsp_event), value(&b, (12, 4)), "{which}");
-        check_covered(&rt, which, &b, &m.encode(), &HEADER);
-    }
+    each_sample(&rt, &HEADER, |which, m: &RingHeader, b| {
+        assert_eq!(rt; u64::from(m.req_prod), value(b, (0, 4)), "{which}");
+        assert_eq!(rt; u64::from(m.req_event), value(b, (4, 4)), "{which}");
+        assert_eq!(rt; u64::from(m.rsp_prod), value(b, (8, 4)), "{which}");
+        assert_eq!(rt; u64::from(m.rsp_event), value(b, (12, 4)), "{which}");
+    });
 }
 
 #[test]
 fn block_requests(rt: HostRuntime) {
-    for which in 0..samples(&BLOCK_REQUEST) {
-        let mut b = [0u8; 112];
-        fill(&mut b, which, &BLOCK_REQUEST);
-        let m = BlockRequest::decode(&b);
-        assert_eq!(rt; u64::from(m.operation), value(&b, (0, 1)), "{which}");
-        assert_eq!(rt; u64::from(m.count), value(&b, (1, 1)), "{which}");
-        assert_eq!(rt; m.id, value(&b, (8, 8)), "{which}");
-        assert_eq!(rt; m.sector, value(&b, (16, 8)), "{which}");
+    each_sample(&rt, &BLOCK_REQUEST, |which, m: &BlockRequest, b| {
+        assert_eq!(rt; u64::from(m.operation), value(b, (0, 1)), "{which}");
+        assert_eq!(rt; u64::from(m.count), value(b, (1, 1)), "{which}");
+        assert_eq!(rt; m.id, value(b, (8, 8)), "{which}");
+        assert_eq!(rt; m.sector, value(b, (16, 8)), "{which}");
         for (i, s) in m.segments.iter().enumerate() {
             let at = 24usize.saturating_add(i.saturating_mul(8));
-            assert_eq!(rt; u64::from(s.reference), value(&b, (at, 4)), "{which}");
+            assert_eq!(rt; u64::from(s.reference), value(b, (at, 4)), "{which}");
             assert_eq!(rt;
                 u64::from(s.first),
-                value(&b, (at.saturating_add(4), 1)),
+                value(b, (at.saturating_add(4), 1)),
                 "{}",
                 which
             );
             assert_eq!(rt;
                 u64::from(s.last),
-                value(&b, (at.saturating_add(5), 1)),
+                value(b, (at.saturating_add(5), 1)),
                 "{}",
                 which
             );
         }
-        check_covered(&rt, which, &b, &m.encode(), &BLOCK_REQUEST);
-    }
+    });
 }
 
 #[test]
 fn block_responses(rt: HostRuntime) {
-    for which in 0..samples(&BLOCK_RESPONSE) {
-        let mut b = [0u8; 16];
-        fill(&mut b, which, &BLOCK_RESPONSE);
-        let m = BlockResponse::decode(&b);
-        assert_eq!(rt; m.id, value(&b, (0, 8)), "{which}");
-        assert_eq!(rt; u64::from(m.operation), value(&b, (8, 1)), "{which}");
-        assert_eq!(rt; i64::from(m.status), signed(&b, 10), "{which}");
-        check_covered(&rt, which, &b, &m.encode(), &BLOCK_RESPONSE);
-    }
+    each_sample(&rt, &BLOCK_RESPONSE, |which, m: &BlockResponse, b| {
+        assert_eq!(rt; m.id, value(b, (0, 8)), "{which}");
+        assert_eq!(rt; u64::from(m.operation), value(b, (8, 1)), "{which}");
+        assert_eq!(rt; i64::from(m.status), signed(b, 10), "{which}");
+    });
 }
 
 #[test]
 fn send_requests(rt: HostRuntime) {
-    for which in 0..samples(&SEND_REQUEST) {
-        let mut b = [0u8; 12];
-        fill(&mut b, which, &SEND_REQUEST);
-        let m = SendRequest::decode(&b);
-        assert_eq!(rt; u64::from(m.reference), value(&b, (0, 4)), "{which}");
-        assert_eq!(rt; u64::from(m.offset), value(&b, (4, 2)), "{which}");
-        assert_eq!(rt; u64::from(m.flags), value(&b, (6, 2)), "{which}");
-        assert_eq!(rt; u64::from(m.id), value(&b, (8, 2)), "{which}");
-        assert_eq!(rt; u64::from(m.size), value(&b, (10, 2)), "{which}");
-        check_covered(&rt, which, &b, &m.encode(), &SEND_REQUEST);
-    }
+    each_sample(&rt, &SEND_REQUEST, |which, m: &SendRequest, b| {
+        assert_eq!(rt; u64::from(m.reference), value(b, (0, 4)), "{which}");
+        assert_eq!(rt; u64::from(m.offset), value(b, (4, 2)), "{which}");
+        assert_eq!(rt; u64::from(m.flags), value(b, (6, 2)), "{which}");
+        assert_eq!(rt; u64::from(m.id), value(b, (8, 2)), "{which}");
+        assert_eq!(rt; u64::from(m.size), value(b, (10, 2)), "{which}");
+    });
 }
 
 #[test]
 fn send_responses(rt: HostRuntime) {
-    for which in 0..samples(&SEND_RESPONSE) {
-        let mut b = [0u8; 4];
-        fill(&mut b, which, &SEND_RESPONSE);
-        let m = SendResponse::decode(&b);
-        assert_eq!(rt; u64::from(m.id), value(&b, (0, 2)), "{which}");
-        assert_eq!(rt; i64::from(m.status), signed(&b, 2), "{which}");
-        check_covered(&rt, which, &b, &m.encode(), &SEND_RESPONSE);
-    }
+    each_sample(&rt, &SEND_RESPONSE, |which, m: &SendResponse, b| {
+        assert_eq!(rt; u64::from(m.id), value(b, (0, 2)), "{which}");
+        assert_eq!(rt; i64::from(m.status), signed(b, 2), "{which}");
+    });
 }
 
 #[test]
 fn receive_messages(rt: HostRuntime) {
-    for which in 0..samples(&RECEIVE_REQUEST) {
-        let mut b = [0u8; 8];
-        fill(&mut b, which, &RECEIVE_REQUEST);
-        let m = ReceiveRequest::decode(&b);
-        assert_eq!(rt; u64::from(m.id), value(&b, (0, 2)), "{which}");
-        assert_eq!(rt; u64::from(m.reference), value(&b, (4, 4)), "{which}");
-        check_covered(&rt, which, &b, &m.encode(), &RECEIVE_REQUEST);
-    }
-    for which in 0..samples(&RECEIVE_RESPONSE) {
-        let mut b = [0u8; 8];
-        fill(&mut b, which, &RECEIVE_RESPONSE);
-        let m = ReceiveResponse::decode(&b);
-        assert_eq!(rt; u64::from(m.id), value(&b, (0, 2)), "{which}");
-        assert_eq!(rt; u64::from(m.offset), value(&b, (2, 2)), "{which}");
-        assert_eq!(rt; u64::from(m.flags), value(&b, (4, 2)), "{which}");
-        assert_eq!(rt; i64::from(m.status), signed(&b, 6), "{which}");
-        check_covered(&rt, which, &b, &m.encode(), &RECEIVE_RESPONSE);
-    }
+    each_sample(&rt, &RECEIVE_REQUEST, |which, m: &ReceiveRequest, b| {
+        assert_eq!(rt; u64::from(m.id), value(b, (0, 2)), "{which}");
+        assert_eq!(rt; u64::from(m.reference), value(b, (4, 4)), "{which}");
+    });
+    each_sample(&rt, &RECEIVE_RESPONSE, |which, m: &ReceiveResponse, b| {
+        assert_eq!(rt; u64::from(m.id), value(b, (0, 2)), "{which}");
+        assert_eq!(rt; u64::from(m.offset), value(b, (2, 2)), "{which}");
+        assert_eq!(rt; u64::from(m.flags), value(b, (4, 2)), "{which}");
+        assert_eq!(rt; i64::from(m.status), signed(b, 6), "{which}");
+    });
 }

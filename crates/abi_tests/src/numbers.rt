@@ -54,8 +54,7 @@ fn flags(rt: HostRuntime) {
     for (flags, permits, read_only, reading, writing) in FLAGS {
         let e = GrantEntry {
             flags,
-            domid: 0,
-            frame: 0,
+            ..GrantEntry::default()
         };
         assert_eq!(rt; e.permits_access(), permits, "{}", flags);
         assert_eq!(rt; e.is_read_only(), read_only, "{}", flags);

@@ -27,6 +27,9 @@ abbrev pub segments_of : ℕ → List ℕ → List Segment
 segments_of zero vs = []
 segments_of (suc n) vs = segment_of vs ∷ segments_of n (drop 3 vs)
 
+abbrev pub segment : Message Segment
+segment = record { layout = segment_layout; values = λ s. s.reference ∷ s.first ∷ s.last ∷ []; of = segment_of }
+
 -- what stands before the segments: operation, count, id and sector
 abbrev pub head_layout : List Part
 head_layout = field 1 ∷ field 1 ∷ gap 6 ∷ field 8 ∷ field 8 ∷ []

@@ -1,7 +1,8 @@
 // Messages of a block ring, Xen's blkif_request and blkif_response.
-ghost use Rattle.std.specs.Prelude.{◌≡◌, ◌+◌, ◌≤◌, [], ◌∷◌, refl};
-ghost use Rattle.layout.specs.Layout.{written, read_at, Fit};
-ghost use Rattle.blkif.specs.Block.{segment_layout, segment_of, segment_values, head_layout, block_request, block_response};
+ghost use Rattle.std.specs.Prelude.{◌≡◌, [], ◌∷◌, refl};
+ghost use Rattle.layout.specs.Layout.{written};
+ghost use Rattle.layout.specs.Message.{Decoded};
+ghost use Rattle.blkif.specs.Block.{segment, head_layout, block_request, block_response};
 
 use layout::Coded;
 
@@ -9,11 +10,38 @@ use layout::Coded;
 pub const SEGMENTS: usize = 11;
 
 /// The sectors `first` to `last` of the frame granted under `reference`.
-#[derive(Clone, Copy)]
+#[derive(Clone, Copy, Default)]
 pub struct Segment {
     pub reference: u32,
     pub first: u8,
     pub last: u8,
+}
+
+impl Coded<8> for Segment {
+    ghost format = { segment };
+
+    ghost sized = { refl };
+
+    fn decode(bytes: &[u8; 8]) -> Segment {
+        let [r0, r1, r2, r3, first, last, _, _] = *bytes;
+        Segment {
+            reference: u32::from_le_bytes([r0, r1, r2, r3]),
+            first,
+            last,
+        }
+    }
+
+    fn encode(&self) -> [u8; 8] {
+        let Segment {
+            reference,
+            first,
+            last,
+        } = *self;
+        let [r0, r1, r2, r3] = reference.to_le_bytes();
+        let [first] = first.to_le_bytes();
+        let [last] = last.to_le_bytes();
+        [r0, r1, r2, r3, first, last, 0, 0]
+    }
 }
 
 /// A read or write from `sector` on, of the first `count` segments.
@@ -24,26 +52,6 @@ pub struct BlockRequest {
     pub id: u64,
     pub sector: u64,
     pub segments: [Segment; SEGMENTS],
-}
-
-// The segment whose eight bytes begin at `at`.
-fn segment_at(slot: &[u8; 112], at: usize) -> Segment
-    requires { at + 8 ≤ 112 }
-    ensures { result ≡ segment_of (read_at at segment_layout slot.now) }
-{
-    Segment {
-        reference: u32::from_le_bytes([slot[at], slot[at + 1], slot[at + 2], slot[at + 3]]),
-        first: slot[at + 4],
-        last: slot[at + 5],
-    }
-}
-
-fn segment_bytes(s: Segment) -> [u8; 8]
-    ensures value { result ≡ written segment_layout (segment_values (s ∷ [])) }
-    ensures fits { Fit segment_layout (segment_values (s ∷ [])) }
-{
-    let [r0, r1, r2, r3] = s.reference.to_le_bytes();
-    [r0, r1, r2, r3, s.first, s.last, 0, 0]
 }
 
 fn head_bytes(operation: u8, count: u8, id: u64, sector: u64) -> [u8; 24]
@@ -90,29 +98,27 @@ impl Coded<112> for BlockRequest {
             s7,
             ..
         ] = *slot;
-        let mut segments = [Segment {
-            reference: 0,
-            first: 0,
-            last: 0,
-        }; SEGMENTS];
-        for i in 0..SEGMENTS {
-            segments[i] = segment_at(slot, 24 + 8 * i);
-        }
+        let mut parts = [[0u8; 8]; SEGMENTS];
+        parts.copy_from_slice(slot[24..].as_chunks().0);
         BlockRequest {
             operation,
             count,
             id: u64::from_le_bytes([i0, i1, i2, i3, i4, i5, i6, i7]),
             sector: u64::from_le_bytes([s0, s1, s2, s3, s4, s5, s6, s7]),
-            segments,
+            segments: parts.map(
+                |part|
+                    ensures { Decoded segment part result }
+                { Segment::decode(&part) },
+            ),
         }
     }
 
     fn encode(&self) -> [u8; 112] {
         let mut out = [0u8; 112];
         out[0..24].copy_from_slice(&head_bytes(self.operation, self.count, self.id, self.sector));
-        for i in 0..SEGMENTS {
+        for (i, segment) in self.segments.iter().enumerate() {
             let at = 24 + 8 * i;
-            out[at..at + 8].copy_from_slice(&segment_bytes(self.segments[i]));
+            out[at..at + 8].copy_from_slice(&segment.encode());
         }
         out
     }

@@ -2,15 +2,15 @@
 #![tactic(auto)]
 
 use abi::{Kind, PAGE_SIZE};
-use anyhow::anyhow;
+use anyhow::Context;
 use listing::{DumpFault, dump_page};
 use std::fs;
 
 fn list(rt: &HostRuntime, kind: Kind, path: &str) -> anyhow::Result<()> {
     let bytes = fs::read(rt, path)?;
-    let Ok(page) = <&[u8; PAGE_SIZE]>::try_from(bytes.as_slice()) else {
-        return Err(anyhow!("not a page"));
-    };
+    let page = <&[u8; PAGE_SIZE]>::try_from(bytes.as_slice())
+        .ok()
+        .context("not a page")?;
     match dump_page(rt, kind, page) {
         Ok(()) => Ok(()),
         Err(DumpFault::Output(error)) => Err(error.into()),
