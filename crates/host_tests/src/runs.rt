@@ -84,9 +84,8 @@ fn withdrawn_while_in_hand(rt: HostRuntime) -> Result<(), Fail> {
     let mut packets = [Packet::new(); 8];
     let mut wire = Wire::new(&mut packets);
     let mut memory = [0u8; 8192];
-    let Ok(mut host) = run(2, &mut memory, &mut disk, &mut wire, &story()) else {
-        return Err(Fail::new("start was refused"));
-    };
+    let started = run(2, &mut memory, &mut disk, &mut wire, &story());
+    let mut host = started.map_err(|_| Fail::new("start was refused"))?;
     let pinned = parts_of(host.give(&memory, &disk, &wire, 1, 1));
     assert_eq!(rt; pinned.answer, -41);
     let completed = parts_of(host.complete(&mut memory, &mut disk, &mut wire, 0));
