@@ -1,7 +1,9 @@
 -- What a command says, and what a line of words may be read as.
-use Rattle.std.specs.Prelude.{◌≡◌, ℕ, ◌-◌, ◌<◌, true, false, List, [], ◌∷◌, length, IfOk, Some, None, Ok, Err, Option, Result, MatchResult, ◌≢◌}
+use Rattle.std.specs.Prelude.{◌≡◌, ℕ, ◌-◌, ◌<◌, true, false, List, [], ◌∷◌, length, map, take, Some, None, Ok, Err, Option, Result, MatchResult, ◌≢◌}
+use Rattle.std.specs.Borrow.{Bor}
 use Rattle.std.specs.Char.{is_whitespace}
 use Rattle.std.specs.Str.Iter.{NoAsciiPasses, HasSubslice}
+use Rattle.script.specs.Numbers.{read_on}
 use Rattle.script.specs.Verbs.{verb_name, takes}
 use Rattle.script.specs.declared.verb.Verb.{Verb}
 use Rattle.script.specs.declared.verb.Verb.TheVariants as verbs
@@ -77,26 +79,14 @@ Refuses name n NoMemory = Unit {0}
 abbrev pub IsVerb : List ℕ → Result Verb LineError → Type 0
 IsVerb name r = MatchResult r (λ v. name ≡ verb_name v) (λ e. (e ≡ NoSuchCall) × ((v : Verb) → name ≢ verb_name v))
 
--- the verb of that name, which so many words may follow
-abbrev pub Named : List ℕ → ℕ → Result Verb LineError → Type 0
-Named name n r = MatchResult r (λ v. (name ≡ verb_name v) × (takes v n ≡ true)) (Refuses name n)
-
 -- a command of that name, which so many words may follow
 abbrev pub Read : List ℕ → ℕ → Result Command LineError → Type 0
 Read name n r = MatchResult r (λ c. (name ≡ verb_name (verb_of c)) × (takes (verb_of c) n ≡ true)) (Refuses name n)
 
--- a call of that name, or no call has it
-abbrev pub Unfit : List ℕ → LineError → Type 0
-Unfit name NoSuchCall = (v : Verb) → name ≢ verb_name v
-Unfit name (WrongWords v) = name ≡ verb_name v
-Unfit name NotNumber = ⊥
-Unfit name NotHalf = ⊥
-Unfit name NotHex = ⊥
-Unfit name NoMemory = ⊥
-
--- a command is read only of a line with as many words as it takes
-abbrev pub Counted : ℕ → Result Command LineError → Type 0
-Counted n r = IfOk r (λ c. takes (verb_of c) (n - 1) ≡ true)
+-- the command that words write: its name, and then its numbers in the order of the line
+abbrev pub Writes : List (Bor (List ℕ)) → Command → Type 0
+Writes [] c = ⊥
+Writes (name ∷ ws) c = (name.now ≡ verb_name (verb_of c)) × (numbers_of c ≡ map (λ w. read_on 0 w.now) (take (length (numbers_of c)) ws))
 
 -- just a line with no words asks for nothing
 abbrev pub Asks : ℕ → Result (Option Command) LineError → Type 0
