@@ -8,7 +8,7 @@ use grant::GrantFault;
 use ring::RingFault;
 
 /// The faults of the host itself, and of the layers below it.
-#[derive(Clone, Copy)]
+#[derive(Clone, Copy, Debug, PartialEq, Eq)]
 pub enum HostFault {
     /// The memory has another size than the host's frames.
     BadMemory,
