@@ -12,5 +12,5 @@ pub use consumed::{Consumed, consume};
 pub use looking::{ask_event, look, next_request};
 pub use moving::move_bytes;
 pub use response::{port_of, respond};
-pub use segments::{job_for, order_for, pin_segments, unpin_segments};
+pub use segments::{BACK_END, job_for, order_for, pin_segments, unpin_segments};
 pub use tables::Tables;

@@ -15,7 +15,8 @@ use grant::{GrantFault, Grants, Mode};
 use request::{Checked, Miss, Parts, Span};
 use rules::front;
 
-const BACK_END: Domain = Domain { id: 0 };
+/// The domain that the back ends run in.
+pub const BACK_END: Domain = Domain { id: 0 };
 
 /// The job that a request of a connection becomes, with nothing mapped yet.
 pub fn job_for(number: u8, kind: Kind, checked: &Checked) -> Job

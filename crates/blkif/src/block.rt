@@ -10,7 +10,7 @@ use layout::Coded;
 pub const SEGMENTS: usize = 11;
 
 /// The sectors `first` to `last` of the frame granted under `reference`.
-#[derive(Clone, Copy, Default)]
+#[derive(Clone, Copy)]
 pub struct Segment {
     pub reference: u32,
     pub first: u8,

@@ -11,7 +11,7 @@ use act::{AnswerText, act};
 use console::wants_usage;
 use device::{Device, DeviceFault, Order};
 use disk::Disk;
-use disk::sectors::SECTOR;
+use disk::sectors::{MOST_SECTORS, SECTOR};
 use failure::Failure;
 use lines::{Line, Start, words};
 use std::env;
@@ -30,7 +30,7 @@ Drives a device by the lines of a script, and prints each line with its answer.
 Numbers are decimal, bytes hexadecimal; a # begins a comment.";
 
 // A disk of more sectors than this is refused, so no larger memory is needed to be refused.
-const TOO_MANY: u32 = 129;
+const TOO_MANY: u32 = MOST_SECTORS as u32 + 1;
 
 // Prints the words of the line with single blanks between, and the arrow.
 fn echo(script: &Script) -> Result<(), Failure> {

@@ -15,7 +15,7 @@ ghost use Rattle.table_calls.specs.Parts.{GrantedBy};
 use crate::callers::{fitting, guest};
 use abi::Kind;
 use answer::{Answer, HostFault};
-use backend::{Tables, port_of};
+use backend::{BACK_END, Tables, port_of};
 use connection::{Connection, ConnectionNumber};
 use event::{Events, Port};
 use frame::Domain;
@@ -48,7 +48,7 @@ fn may_connect(
         .ok_or(RingFault::NoConnection)?;
     let granted = tables.grants.may_map_for(
         &tables.frames,
-        Domain { id: 0 },
+        BACK_END,
         u32::from(guest.id),
         reference,
         Mode::Write,
@@ -73,7 +73,7 @@ pub fn connect(
     let domain = guest(tables, memory, caller)?;
     let offer = may_connect(tables, domain, kind, reference)?;
     let granted = offer.granted;
-    tables.grants.pin(Domain { id: 0 }, granted);
+    tables.grants.pin(BACK_END, granted);
     put_fresh_header(memory, granted.mapping.frame);
     let connection = Connection {
         kind: offer.kind,
@@ -118,11 +118,9 @@ pub fn disconnect(tables: &mut Tables, memory: &[u8], number: u32) -> Result<Ans
     fitting(tables, memory)?;
     let (live, connection) = may_disconnect(tables, number)?;
     let port = port_of(live);
-    tables
-        .grants
-        .unpin(Domain { id: 0 }, u32::from(connection.handle));
+    tables.grants.unpin(BACK_END, u32::from(connection.handle));
     drop_end(&mut tables.events, connection.guest, port);
-    tables.events.drop_mark(Domain { id: 0 }, port);
+    tables.events.drop_mark(BACK_END, port);
     tables.rings.close(number);
     Ok(Answer::Done)
 }

@@ -10,7 +10,7 @@ ghost use Rattle.table_calls.specs.Parts.{allowed, GrantedBy, taken_up};
 
 use crate::callers::{domain, guest};
 use answer::{Answer, HostFault};
-use backend::Tables;
+use backend::{BACK_END, Tables};
 use event::{EventFault, Port};
 use frame::Domain;
 
@@ -34,7 +34,7 @@ pub fn send(tables: &mut Tables, memory: &[u8], caller: u32, port: u32) -> Resul
 {
     let domain = guest(tables, memory, caller)?;
     let port = may_send(tables, domain, port)?;
-    tables.events.mark(Domain { id: 0 }, port);
+    tables.events.mark(BACK_END, port);
     Ok(Answer::Done)
 }
 
