@@ -97,3 +97,25 @@ fn pins_outlive_the_entry(rt: HostRuntime) -> Result<(), Fail> {
     assert!(rt; grants.may_unmap(two, 0).is_err());
     Ok(())
 }
+
+// Two read maps: flags 1, then 9, and two pins. One unmapped leaves flags 9 and a pin; both unmapped, flags 1 and none.
+#[test]
+fn two_readers(rt: HostRuntime) -> Result<(), Fail> {
+    let one = Domain::try_from(1)?;
+    let two = Domain::try_from(2)?;
+    let frames = owned_by(one);
+    let mut grants = Grants::new();
+    let reference = Grants::may_write(0)?;
+    grants.write_entry(one, reference, entry(1, 2, 3));
+    let first = map(&mut grants, &frames, two, 0)?;
+    let second = map(&mut grants, &frames, two, 0)?;
+    assert_eq!(rt; grants.entry(one, reference).flags, 9);
+    assert_eq!(rt; grants.pins(3), 2);
+    grants.unpin(two, u32::from(first));
+    assert_eq!(rt; grants.entry(one, reference).flags, 9);
+    assert_eq!(rt; grants.pins(3), 1);
+    grants.unpin(two, u32::from(second));
+    assert_eq!(rt; grants.entry(one, reference).flags, 1);
+    assert_eq!(rt; grants.pins(3), 0);
+    Ok(())
+}

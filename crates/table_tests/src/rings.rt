@@ -65,3 +65,11 @@ fn producer(rt: HostRuntime) {
     assert!(rt; ahead(Kind::Block, 1, 4_294_967_294, 30).is_ok());
     assert!(rt; ahead(Kind::Block, 1, 4_294_967_294, 31).is_err());
 }
+
+// Nothing was consumed: as many requests as slots are ahead, and one more is refused with -42.
+#[test]
+fn full_ring(rt: HostRuntime) {
+    assert_eq!(rt; ahead(Kind::Block, 0, 0, 32).ok(), Some(32));
+    let refused = ahead(Kind::Block, 0, 0, 33).err();
+    assert_eq!(rt; refused.map(|fault| fault.number()), Some(-42));
+}
