@@ -40,7 +40,7 @@ module _ (hs : List (Option Mapping)) (C : Rings) (conns : List (Option Connecti
   next_ticket_same c = ap (λ (b : Bool). cond b (2 * c + 1) (2 * c))
       (sym (same_some_ness host_work noted_work (at C.jobs (2 * c)) (at jobs (2 * c)) (same_places host_work noted_work C.jobs jobs L.jobs_same (2 * c))))
 
-  -- the account's tables are as long as the host's
+  -- the account's table of jobs is as long as the host's
   pub job_notes_size : length jobs ≡ 12
   job_notes_size = sym (length-map jobs (option_map noted_work)) ∙ sym (ap length L.jobs_same) ∙ length-map C.jobs (option_map host_work) ∙ L.jobs-size
 
