@@ -120,7 +120,7 @@ fn drained_in_turn(rt: HostRuntime) {
     ];
     let drained = drain_parts(&mut disk, 0, 0, &memory, &parts);
     assert_eq!(rt; drained.map_err(|fault| fault.number()), Err(-6));
-    assert_eq!(rt; disk.done(0).is_ok(), true);
+    assert!(rt; disk.done(0).is_ok());
     assert!(rt;
         disk.accept(Order {
             ticket: 0,

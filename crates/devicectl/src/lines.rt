@@ -3,12 +3,13 @@ use crate::act::Command;
 use crate::failure::Failure;
 use console::FromLine;
 use device::{Direction, Order};
+use disk::sectors::{MOST_SECTORS, SECTOR};
 use hex::FromHexError;
 use std::alloc::{AllocError, Global};
 use std::str::FromStr;
 
 /// The most bytes that one line fills, as many as the largest disk has.
-const MOST_FILLED: u32 = 65_536;
+const MOST_FILLED: u32 = (MOST_SECTORS * SECTOR) as u32;
 
 // What is expected of a ticket, of a length or an offset, and of a place.
 const TICKET: &str = "a ticket is a number from 0 to 255";

@@ -12,10 +12,12 @@ use console::wants_usage;
 use device::{Device, DeviceFault, Order};
 use disk::Disk;
 use disk::sectors::{MOST_SECTORS, SECTOR};
+use disk::store::CAPACITY;
 use failure::Failure;
 use lines::{Line, Start, words};
 use std::env;
 use std::process::ExitCode;
+use wire::making::WAITING;
 use wire::{Packet, Wire};
 
 type Script = console::Script<Line>;
@@ -95,13 +97,13 @@ fn start(script: &mut Script, start: Start) -> Result<Option<Start>, Failure>
         Start::Disk(sectors) => {
             let size = sectors.min(TOO_MANY) as usize * SECTOR;
             let mut memory = vec![in script.rt.alloc(); 0u8; size]?;
-            let mut slots = [Order::default(); 4];
+            let mut slots = [Order::default(); CAPACITY];
             let checked = disk::check(memory.as_slice(), &slots);
             let mut disk = Disk::new(memory.as_mut_slice(), &mut slots);
             try_device(script, checked, &mut disk)
         }
         Start::Wire => {
-            let mut slots = [Packet::new(); 8];
+            let mut slots = [Packet::new(); WAITING];
             let checked = wire::check(&slots);
             try_device(script, checked, &mut Wire::new(&mut slots))
         }

@@ -1,8 +1,9 @@
 // The disk as a device.
-ghost use Rattle.std.specs.Prelude.{◌≡◌};
+ghost use Rattle.std.specs.Prelude.{◌≡◌, ◌+◌, ◌≤◌, length, IfOk};
 ghost use Rattle.queue.specs.Line.{items};
-ghost use Rattle.device.specs.Meaning.{in_hand};
-ghost use Rattle.disk.specs.State.{State, state, disk_rules, disk_laws};
+ghost use Rattle.rules.specs.Refusal.{granting};
+ghost use Rattle.device.specs.Meaning.{in_hand, serving};
+ghost use Rattle.disk.specs.State.{State, state, start, disk_rules, disk_laws};
 
 use crate::Disk;
 use crate::sectors::{MOST_SECTORS, SECTOR};
@@ -17,6 +18,23 @@ fn holds(orders: &Queue<'_, Order>, ticket: u8) -> bool
 {
     let (front, back) = orders.as_slices();
     front.iter().chain(back).any(|order| order.ticket == ticket)
+}
+
+impl<'a> Disk<'a> {
+    // Where on the disk the order's bytes from `at` on begin, if it is the order's turn and it has `size` of them.
+    fn start_of(
+        &self,
+        ticket: u8,
+        direction: Direction,
+        at: u32,
+        size: usize,
+    ) -> Result<usize, DeviceFault>
+        ensures start { result ≡ granting (λ o. start o at) (serving disk_rules (state self.now) ticket direction (at + size)) }
+        ensures inside { IfOk result (λ begin. begin + size ≤ length self.now.sectors.bytes.now) }
+    {
+        let order = part_on_turn(self.orders.front(), ticket, direction, at, size)?;
+        Ok(order.place as usize * SECTOR + at as usize)
+    }
 }
 
 impl<'a> Device for Disk<'a> {
@@ -54,27 +72,13 @@ impl<'a> Device for Disk<'a> {
     }
 
     fn fill(&mut self, ticket: u8, at: u32, part: &mut [u8]) -> Result<(), DeviceFault> {
-        let order = part_on_turn(
-            self.orders.front(),
-            ticket,
-            Direction::Inward,
-            at,
-            part.len(),
-        )?;
-        let start = order.place as usize * SECTOR + at as usize;
+        let start = self.start_of(ticket, Direction::Inward, at, part.len())?;
         self.sectors.read(start, part);
         Ok(())
     }
 
     fn drain(&mut self, ticket: u8, at: u32, part: &[u8]) -> Result<(), DeviceFault> {
-        let order = part_on_turn(
-            self.orders.front(),
-            ticket,
-            Direction::Outward,
-            at,
-            part.len(),
-        )?;
-        let start = order.place as usize * SECTOR + at as usize;
+        let start = self.start_of(ticket, Direction::Outward, at, part.len())?;
         self.sectors.write(start, part);
         Ok(())
     }

@@ -5,9 +5,11 @@ use crate::setup::Machine;
 use answer::{Answer, HostFault, parts_of};
 use device::{Device, Order};
 use disk::Disk;
+use disk::store::CAPACITY;
 use frame::FRAME_SIZE;
 use host::{Call, Host};
 use script::Command;
+use wire::making::WAITING;
 use wire::{Packet, Wire};
 
 // The call of a command; a disk and a start are none, and come too late once the host has started.
@@ -58,8 +60,8 @@ fn make<B: Device, N: Device>(
 
 /// Makes the script's calls until it ends, with a disk in bay 0 and the wire in bay 1.
 pub(crate) fn drive(script: &mut Script, machine: &mut Machine) -> Result<(), Failure> {
-    let mut orders = [Order::default(); 4];
-    let mut packets = [Packet::new(); 8];
+    let mut orders = [Order::default(); CAPACITY];
+    let mut packets = [Packet::new(); WAITING];
     let mut disk = Disk::new(machine.disk.as_mut_slice(), &mut orders);
     let mut wire = Wire::new(&mut packets);
     while let Some(asked) = script.next() {

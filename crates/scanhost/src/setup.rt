@@ -4,6 +4,7 @@ use crate::input::{Script, print_answer};
 use answer::{Answer, HostFault, parts_of};
 use device::Order;
 use disk::sectors::{MOST_SECTORS, SECTOR};
+use disk::store::CAPACITY;
 use frame::{FRAME_SIZE, FRAMES};
 use host::Host;
 use ring::RingFault;
@@ -11,7 +12,7 @@ use script::Command;
 use std::alloc::{AllocError, Global};
 
 // A disk has this many sectors where no line says otherwise.
-const SECTORS: u32 = 128;
+const SECTORS: u32 = MOST_SECTORS as u32;
 
 /// The host with its memory, and the bytes of the disk.
 #[derive(Drop)]
@@ -33,7 +34,7 @@ fn sectors(heap: Global, count: u32) -> Result<Vec<u8>, AllocError> {
 
 // Whether the bytes make a disk.
 fn check(disk: &[u8]) -> Result<Answer, HostFault> {
-    disk::check(disk, &[Order::default(); 4]).map_err(RingFault::from)?;
+    disk::check(disk, &[Order::default(); CAPACITY]).map_err(RingFault::from)?;
     Ok(Answer::Done)
 }
 

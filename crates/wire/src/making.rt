@@ -24,7 +24,7 @@ pub fn check(slots: &[Packet]) -> Result<(), DeviceFault>
 
 impl<'a> Wire<'a> {
     /// A wire on which no packet waits and no order is in hand. It has room for as many packets as
-    /// there are slots, so over slots that the check refuses for another number than 8.
+    /// there are slots; the check refuses any number of slots but 8.
     pub fn new(slots: &'a mut [Packet]) -> Wire<'a>
         ensures { state result ≡ new_wire (length slots.old) }
     {
