@@ -1,5 +1,5 @@
 -- The words that split_whitespace gives until it ends are the words of its text.
-use Rattle.std.proofs.Common.{◌≡◌, ℕ, List, [], ◌∷◌, Some, None, Bor, sym, subst}
+use Rattle.std.proofs.Common.{◌≡◌, ℕ, List, [], ◌∷◌, None, Bor, sym, subst}
 use Rattle.std.specs.Iterator.{Yields, DrainsIf}
 use Rattle.std.specs.declared.str.SplitWhitespace.{SplitWhitespace}
 use Rattle.std.specs.Str.Iter.{split_whitespace_steps, split_whitespace_rest}
