@@ -55,6 +55,7 @@ impl<T: FromLine> Iterator for Script<T> {
     ghost remaining = { λ s. at_most (lines_ahead s) };
 
     fn next(&mut self) -> Option<Result<T, T::Err>> {
+        // A loop: after find_map nothing would be known of what its closure wrote to the fields.
         while let Some(line) = self.lines.next() {
             self.came = self.came.saturating_add(1);
             match line {

@@ -18,6 +18,7 @@ pub enum Request {
 }
 
 // The message that begins at the byte `at`. Its bytes are copied out once, and only the copy is looked at.
+#[tactic(auto, using(layout::proofs::Codec::in_place))]
 pub(crate) fn copy_message<M: Coded<N>, const N: usize>(page: &[u8; PAGE_SIZE], at: usize) -> M
     requires { at + N ≤ 4096 }
     ensures { result ≡ M.format.of (read_at at M.format.layout page.now) }

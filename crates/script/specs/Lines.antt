@@ -1,8 +1,8 @@
 -- What a command says, and what a line of words may be read as.
-use Rattle.std.specs.Prelude.{◌≡◌, ℕ, ◌-◌, ◌<◌, true, false, List, [], ◌∷◌, length, map, take, Some, None, Ok, Err, Option, Result, MatchResult, ◌≢◌}
+use Rattle.std.specs.Prelude.{◌≡◌, ℕ, ◌-◌, ◌<◌, true, false, List, [], ◌∷◌, ◌++◌, length, map, take, Some, None, Ok, Err, Option, Result, MatchResult, ◌≢◌}
 use Rattle.std.specs.Borrow.{Bor}
-use Rattle.std.specs.Char.{is_whitespace}
-use Rattle.std.specs.Str.Iter.{NoAsciiPasses, HasSubslice}
+use Rattle.std.specs.Char.{is_whitespace, is_not_whitespace}
+use Rattle.std.specs.Str.{NoCharPasses, EmptyOrStartsWithPassing}
 use Rattle.script.specs.Numbers.{read_on}
 use Rattle.script.specs.Verbs.{verb_name, takes}
 use Rattle.script.specs.declared.verb.Verb.{Verb}
@@ -14,9 +14,15 @@ use Rattle.script.specs.declared.command.Command.TheVariants.{Disk, Start, Call,
 use Rattle.host.specs.declared.call.Call.{Call as HostCall}
 use Rattle.host.specs.declared.call.Call.TheVariants.{Take, Give, Load, Store, Entry, End, Map, Unmap, Send, Next, Connect, Serve, Complete, Disconnect}
 
--- a word of a text: not empty, and with no white space in it
-abbrev pub IsWordOf : List ℕ → List ℕ → Type 0
-IsWordOf text word = (0 < length word) × NoAsciiPasses is_whitespace word × HasSubslice text word
+-- white space alone, or nothing
+abbrev pub IsBlank : List ℕ → Type 0
+IsBlank = NoCharPasses is_not_whitespace
+
+-- all words of a text, in order: white space alone stands before each and after the last, and each goes on to white space or to the end
+abbrev pub AreWords : List ℕ → List (Bor (List ℕ)) → Type 0
+AreWords text [] = IsBlank text
+AreWords text (w ∷ ws) = (gap : List ℕ) × (rest : List ℕ) × (text ≡ gap ++ (w.now ++ rest)) × IsBlank gap
+    × (0 < length w.now) × NoCharPasses is_whitespace w.now × ((more : List ℕ) × EmptyOrStartsWithPassing is_whitespace rest more) × AreWords rest ws
 
 -- the verb of a call
 abbrev pub verb_of_call : HostCall → Verb

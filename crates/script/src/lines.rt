@@ -1,7 +1,7 @@
 // The words of a line as a command.
 ghost use Rattle.std.specs.Prelude.{◌≡◌, ◌==◌, IfOk, IfSome, length, map, take};
-ghost use Rattle.std.specs.List.{All, before_first};
-ghost use Rattle.script.specs.Lines.{Asks, IsWordOf, Read, Writes, numbers_of};
+ghost use Rattle.std.specs.List.{before_first};
+ghost use Rattle.script.specs.Lines.{AreWords, Asks, Read, Writes, numbers_of};
 ghost use Rattle.script.specs.Numbers.{read_on};
 
 use crate::command::Command;
@@ -20,7 +20,7 @@ pub fn without_comment(line: &str) -> &str
 
 /// The words of a line, up to a comment.
 pub fn words(heap: Global, line: &str) -> Result<Vec<&str>, LineError>
-    ensures { IfOk result (λ ws. All (λ w. IsWordOf (before_first (λ c. c == 35) line.now) w.now) ws.items) }
+    ensures { IfOk result (λ ws. AreWords (before_first (λ c. c == 35) line.now) ws.items) }
 {
     Ok(without_comment(line).split_whitespace().collect(heap)?)
 }

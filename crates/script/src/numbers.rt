@@ -9,6 +9,7 @@ use hex::FromHexError;
 use std::alloc::Global;
 
 /// A decimal number of 32 bits.
+#[tactic(auto, using(crate::proofs::Decimals::own, std::proofs::lemmas::Str::Parse::parse_plain))]
 pub fn number(word: &str) -> Result<u32, LineError>
     ensures { ReadsNumber 32 NotNumber word.now result }
 {
@@ -28,6 +29,7 @@ pub fn half(word: &str) -> Result<u16, LineError>
 }
 
 /// The bytes that a word writes, two hexadecimal digits each.
+#[tactic(auto, using(crate::proofs::Pairs::decoded))]
 pub fn bytes(heap: Global, word: &str) -> Result<Vec<u8>, LineError>
     ensures { ReadsBytes vec_items word.now result }
 {
