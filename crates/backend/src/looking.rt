@@ -9,7 +9,7 @@ use connection::Connection;
 use ring::{RingFault, Word, ahead, put_word, request_or_zeros, word_or_zero};
 use ringpage::Request;
 
-/// The ticket for the request that is next, or none where no request is. The guest's index is looked at first, and a
+/// Gives back the ticket where a request is next, and none where none is. The guest's index is looked at first, and a
 /// back end that is busy, which has no ticket, refuses only where there is something to do.
 pub fn look(
     connection: &Connection,

@@ -3,7 +3,6 @@ ghost use Rattle.backend.specs.Move.{Moved};
 
 use connection::Job;
 use device::{Device, DeviceFault, Direction, drain_parts, fill_parts};
-use rules::front;
 
 /// Moves the bytes of a job whose turn it is, segment by segment, which way it goes. At a fault what was moved before
 /// stays so.
@@ -15,7 +14,7 @@ pub fn move_bytes<D: Device>(
 ) -> Result<(), DeviceFault>
     ensures { Moved D.rules ticket job.now memory.old (D.meaning device.old) result memory.new (D.meaning device.new) }
 {
-    let parts = front(&job.parts, job.count as usize);
+    let parts = job.parts();
     match job.direction {
         Direction::Inward => fill_parts(device, ticket, 0, memory, parts),
         Direction::Outward => drain_parts(device, ticket, 0, memory, parts),

@@ -13,7 +13,6 @@ use device::{Direction, Order, Part};
 use frame::{Domain, FRAME_SIZE, Frames};
 use grant::{GrantFault, Grants, Mode};
 use request::{Checked, Miss, Parts, Span};
-use rules::front;
 
 /// The domain that the back ends run in.
 pub const BACK_END: Domain = Domain { id: 0 };
@@ -93,8 +92,7 @@ fn pin_segment(
 pub fn unpin_segments(grants: &mut Grants, job: &Job)
     ensures { grants.new ≡ released_all (handles_of job.now) grants.old }
 {
-    let handles = front(&job.handles, job.count as usize);
-    for handle in handles.iter().rev() {
+    for handle in job.handles().iter().rev() {
         grants.unpin(BACK_END, u32::from(*handle));
     }
 }
@@ -111,8 +109,7 @@ pub fn pin_segments(
     ensures { Pinned frames.now guest (listed parts.now) grants.old job.old result grants.new job.new }
 {
     job.count = 0;
-    let spans = front(&parts.table, parts.count as usize);
-    for span in spans {
+    for span in parts.spans() {
         if let Err(fault) = pin_segment(frames, grants, guest, span, job) {
             unpin_segments(grants, job);
             return Err(Miss {

@@ -54,10 +54,8 @@ fn grant(grants: &mut Grants, one: Domain, reference: u32, frame: u32) -> Result
 
 // The number of a refusal and its place, or 0 and 0.
 fn number(r: Result<(), Miss>) -> (i32, u8) {
-    match r {
-        Ok(()) => (0, 0),
-        Err(miss) => (miss.fault.number(), miss.place),
-    }
+    r.err()
+        .map_or((0, 0), |miss| (miss.fault.number(), miss.place))
 }
 
 // Reference 5 is granted and 6 is not: the map of the second segment is refused with -1, at place 1, and the first is

@@ -1,7 +1,11 @@
 // The two tables, plain.
+ghost use Rattle.std.specs.Prelude.{◌≡◌};
+ghost use Rattle.connection.specs.Tables.{handles_of, parts_of};
+
 use abi::Kind;
 use blkif::SEGMENTS;
 use device::{Direction, Part};
+use rules::front;
 
 /// How many connections a host has.
 pub const CONNECTIONS: usize = 6;
@@ -34,6 +38,22 @@ pub struct Job {
     pub count: u8,
     pub handles: [u8; SEGMENTS],
     pub parts: [Part; SEGMENTS],
+}
+
+impl Job {
+    /// Domain 0's handles of the job's segments.
+    pub fn handles(&self) -> &[u8]
+        ensures { result.now ≡ handles_of self.now }
+    {
+        front(&self.handles, self.count as usize)
+    }
+
+    /// The parts of memory that the job's segments are.
+    pub fn parts(&self) -> &[Part]
+        ensures { result.now ≡ parts_of self.now }
+    {
+        front(&self.parts, self.count as usize)
+    }
 }
 
 /// Connections by number, jobs by ticket: 2 * connection, or one more.

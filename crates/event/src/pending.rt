@@ -4,12 +4,12 @@ ghost use Rattle.std.specs.Option.{option_map};
 ghost use Rattle.event.specs.Pending.{new_events, word, marked, dropped, Only, picked, Picked};
 
 use crate::port::Port;
-use frame::Domain;
+use frame::{DOMAINS, Domain};
 
 /// A word for each domain: bit p is port p.
 #[derive(Drop)]
 pub struct Events {
-    pub pending: [u32; 8],
+    pub pending: [u32; DOMAINS as usize],
 }
 
 impl Events {
@@ -17,7 +17,9 @@ impl Events {
     pub fn new() -> Events
         ensures { result ≡ new_events }
     {
-        Events { pending: [0; 8] }
+        Events {
+            pending: [0; DOMAINS as usize],
+        }
     }
 
     /// The port of the domain becomes pending.

@@ -6,6 +6,9 @@ use blkif::Segment;
 use device::Direction;
 use ringpage::Request;
 
+// The bytes of a sector.
+const SECTOR: u32 = 512;
+
 /// A part of the frame granted under `reference`.
 #[derive(Clone, Copy)]
 pub struct Span {
@@ -70,7 +73,7 @@ pub fn segment_span(segment: Segment) -> Span
     let sectors = (u32::from(segment.last) + 1).saturating_sub(u32::from(segment.first));
     Span {
         reference: segment.reference,
-        start: 512 * u32::from(segment.first),
-        length: 512 * sectors,
+        start: SECTOR * u32::from(segment.first),
+        length: SECTOR * sectors,
     }
 }

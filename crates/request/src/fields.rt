@@ -2,6 +2,7 @@
 ghost use Rattle.std.specs.Prelude.{◌≡◌, ◌<◌, ◌≤◌, ◌||◌, length, nat_lt, position, IfSome};
 ghost use Rattle.request.specs.Check.{miss, segment_verdict, field_verdict};
 
+use abi::PAGE_SIZE;
 use blkif::{SEGMENTS, Segment};
 use ring::RingFault;
 use ringpage::Request;
@@ -61,7 +62,7 @@ pub fn check_fields(request: &Request) -> Result<(), Miss>
             check_segments(&q.segments[..q.count as usize])
         }
         Request::OfSend(q) => {
-            if q.flags != 0 || u32::from(q.offset) + u32::from(q.size) > 4096 {
+            if q.flags != 0 || u32::from(q.offset) + u32::from(q.size) > PAGE_SIZE as u32 {
                 return Err(RingFault::BadSpan.into());
             }
             Ok(())

@@ -1,8 +1,9 @@
 // The parts of frames that a request names, in order.
-ghost use Rattle.std.specs.Prelude.{◌≡◌, ◌<◌, ◌^◌, [], ◌∷◌, map, take, sum_by};
+ghost use Rattle.std.specs.Prelude.{◌≡◌, ◌<◌, ◌≤◌, ◌^◌, [], ◌∷◌, length, map, take, sum_by};
 ghost use Rattle.request.specs.Content.{segment_span, spans_of, length_of, listed};
 
 use crate::content::{Span, segment_span};
+use abi::PAGE_SIZE;
 use blkif::{BlockRequest, SEGMENTS};
 use ringpage::Request;
 use rules::front;
@@ -14,6 +15,16 @@ pub struct Parts {
     pub table: [Span; SEGMENTS],
     pub count: u8,
     pub length: u32,
+}
+
+impl Parts {
+    /// The parts, in their order.
+    pub fn spans(&self) -> &[Span]
+        ensures is { result.now ≡ listed self.now }
+        ensures bound { length result.now ≤ 11 }
+    {
+        front(&self.table, self.count as usize)
+    }
 }
 
 fn one_part(span: Span) -> Parts
@@ -64,7 +75,7 @@ pub fn parts_of(request: &Request) -> Parts
         Request::OfReceive(q) => one_part(Span {
             reference: q.reference,
             start: 0,
-            length: 4096,
+            length: PAGE_SIZE as u32,
         }),
     }
 }
