@@ -24,7 +24,7 @@ use Rattle.connection.specs.declared.kinds.Bay.{Bay}
 use Rattle.connection.specs.declared.tables.Connection.{Connection}
 use Rattle.connection.specs.declared.tables.Job.{Job}
 use Rattle.backend.specs.Segments.{released_all, mode_for}
-use Rattle.backend.specs.Respond.{responded_memory, responded_rings}
+use Rattle.backend.specs.Respond.{responded_memory, responded_rings, responded_events}
 use Rattle.backend.specs.Move.{moving, moved_memory, moved_device}
 use Rattle.backend.specs.declared.tables.Tables.{Tables}
 use Rattle.answer.specs.declared.reply.Answer.TheVariants.{Idle, Completed}
@@ -32,15 +32,15 @@ use Rattle.law.specs.Serve.{Outcome, responded}
 use Rattle.law.specs.Complete.{closed, finished, completed_job, completed}
 use Rattle.law.specs.Account.{Account, ConnectionNote, JobNote, complete_noted, job_answered, mappings_ended, noted_connection, noted_job, with_response}
 use Rattle.law.specs.Keeps.{Writes, Maps, InSlot, under_ticket, handed, Pairing, noted_pairing, host_pairing, Work, noted_work, host_work}
-use Rattle.law.proofs.Inv.{Links, Requests, BayHeld, SegmentMapped, JobHeld, OrderHeld, RequestHeld, no_part}
+use Rattle.law.proofs.Inv.{Links, Requests, BayHeld, Words, SegmentMapped, JobHeld, OrderHeld, RequestHeld, no_part}
 use Rattle.law.proofs.Books.{frame-owned, owns_parts, in_force}
 use Rattle.law.proofs.Links.{connection-noted, job_noted_too, links_completed}
 use Rattle.law.proofs.Requested.{requests-completed}
-use Rattle.law.proofs.Tickets.{taken_inside, same_some}
+use Rattle.law.proofs.Tickets.{taken_inside, same_some, set_taken}
 use Rattle.law.proofs.Released.{AllReleased, segments_released, counted-stands, uncounted}
 use Rattle.law.proofs.Bytes.{page_there, responded-size, responded-others}
 use Rattle.law.proofs.Altered.{PartIn, filled-others}
-use Rattle.law.proofs.Marks.{responded_words}
+use Rattle.law.proofs.Marks.{words_kept, responded_words}
 use Rattle.law.proofs.Bays.{under_done, turn_order}
 use Rattle.law.proofs.Moves.{moved_orders, moves_granted, done_granted, moved_size}
 use Rattle.law.proofs.Cases.{by_either, by_some}
@@ -259,7 +259,11 @@ module _ {X : Type 0} (D : Rules X) (laws : Laws D) (b : Bay) (a : Account) (H :
                   (subst (λ js. Requests (set H.rings.jobs t None) (set a.connections j.connection (Some (with_response note.index old))) (set js t None)) (sym all.jobs)
                   (subst (λ c. Requests (set H.rings.jobs t None) (set a.connections c (Some (with_response note.index old))) (set a.jobs t None)) connection-same
                   (requests-completed H.grants.handles H.rings a.connections a.jobs t j note old there noted-there (ap (λ c. at a.connections c) connection-same ∙ old-there) i.links i.requests)));
-              words = responded_words H.events j.connection k last-memory (omega (arith, taken_inside H.rings.connections j.connection k live, i.links.connections-size)) i.words;
+              words = subst (λ cs. Words (responded_events j.connection k last-memory H.events) cs) (sym all.connections)
+                  (responded_words H.events (set a.connections j.connection (Some (with_response note.index old))) j.connection k (with_response note.index old) last-memory
+                  (omega (arith, taken_inside H.rings.connections j.connection k live, i.links.connections-size))
+                  (set_taken a.connections j.connection (Some (with_response note.index old)) old old-there) (sym (ap (λ (p : Pairing). p.guest) pairing))
+                  (words_kept H.events a.connections j.connection old (with_response note.index old) old-there refl i.words));
             };
             count = refl;
             bay = subst (λ js. BayHeld D (D.without device-then note.order) b (set js t None)) (sym all.jobs)
@@ -281,6 +285,7 @@ module _ {X : Type 0} (D : Rules X) (laws : Laws D) (b : Bay) (a : Account) (H :
                 (ap (λ (p : Pairing). p.kind) pairing) (ap (λ (p : Pairing). p.page) pairing) request.there (i.links.indices j.connection k old live old-there).produced page-inside
                 c n o q (ap (λ cs. at cs c) (sym all.connections) ∙ e) low high at-index);
             unbroken = λ e q. let z : ◌≡◌ {A = ℕ} 0 1 = cc in omega arith;
+            refused = λ e q. absurd (let z : ◌≡◌ {A = ℕ} 0 1 = cc in omega arith);
           }
 
       job_good : CompleteGood (completed_job D t j H m x)

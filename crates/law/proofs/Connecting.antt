@@ -13,7 +13,7 @@ use Rattle.grant.specs.Pin.{released}
 use Rattle.grant.specs.declared.tables.Mapping.{Mapping}
 use Rattle.grant.specs.declared.tables.Mode.TheVariants.{Write}
 use Rattle.grant.specs.declared.fault.GrantFault.{GrantFault}
-use Rattle.event.specs.Pending.{dropped}
+use Rattle.event.specs.Pending.{word, bit, dropped}
 use Rattle.ring.specs.Page.{fresh_header}
 use Rattle.ring.specs.declared.fault.RingFault.{RingFault}
 use Rattle.ring.specs.declared.fault.RingFault.TheVariants.{BadKind, NoConnection, NotLive, HasJobs, OfGrant}
@@ -22,7 +22,9 @@ use Rattle.connection.specs.declared.kinds.Bay.TheVariants.{BlockBay, NetBay}
 use Rattle.connection.specs.declared.tables.Connection.{Connection}
 use Rattle.backend.specs.Respond.{port_of}
 use Rattle.backend.specs.declared.tables.Tables.{Tables}
+use Rattle.answer.specs.declared.fault.HostFault.{HostFault}
 use Rattle.answer.specs.declared.fault.HostFault.TheVariants.{InRing}
+use Rattle.answer.specs.declared.reply.Answer.{Answer}
 use Rattle.answer.specs.declared.reply.Answer.TheVariants.{Done, Connected}
 use Rattle.law.specs.World.{World, with_host, with_memory}
 use Rattle.law.specs.Call.{Connect, Disconnect}
@@ -30,14 +32,14 @@ use Rattle.law.specs.Connect.{connect_rules, connect_verdict, new_number, new_co
 use Rattle.law.specs.Step.{proceeds}
 use Rattle.law.specs.Account.{Account, ConnectionNote, accepted, next_handle, mapping_noted, mapping_ended, noted_connection, disconnect_noted}
 use Rattle.law.specs.Keeps.{Pairing}
-use Rattle.law.proofs.Inv.{Inv, Links, Requests, BayHeld}
+use Rattle.law.proofs.Inv.{Inv, Links, Requests, BayHeld, Words}
 use Rattle.law.proofs.Books.{MapAccepted, map-accepted, books_pinned, books_unpinned, owns_parts, next_handle_same}
 use Rattle.law.proofs.Released.{released-handles}
-use Rattle.law.proofs.Links.{links_opened, links_closed, connection-noted}
+use Rattle.law.proofs.Links.{links_opened, links_closed, connection-noted, no_connection_noted}
 use Rattle.law.proofs.Requested.{requests_opened, requests-closed}
-use Rattle.law.proofs.Tickets.{at_set}
+use Rattle.law.proofs.Tickets.{at_set, taken_inside}
 use Rattle.law.proofs.Bytes.{put_size, put_others}
-use Rattle.law.proofs.Marks.{dropped_words}
+use Rattle.law.proofs.Marks.{words_opened, words_closed, unmarked}
 use Rattle.law.proofs.Simple.{ended_keeps}
 use Rattle.law.proofs.Good.{Good, Unbroken, after, good_by, no_response}
 
@@ -54,6 +56,9 @@ connect_unbroken false false (Err f) e q x z = let z : ◌≡◌ {A = ℕ} 0 1 =
 
 some_same : {X : Type 0} (x y : X) → Some x ≡ Some y → x ≡ y
 some_same x y e = cc
+
+number_is : (c n : ℕ) → ◌≡◌ {A = Result Answer HostFault} (Ok (Connected c)) (Ok (Connected n)) → c ≡ n
+number_is c n e = cc
 
 -- the free connection that there is
 some_free : {X : Type 0} (o : Option X) (d : X) → is_some o ≡ true → o ≡ Some (unwrap_or o d)
@@ -89,6 +94,9 @@ module _ {M N : Type 0} (R : Rules M) (S : Rules N) (pick : ℕ → ℕ) (a : Ac
     was_free : at H.rings.connections number ≡ None
     was_free = let e : number ≡ free.0 = omega (arith, free.1) in subst (λ c. at H.rings.connections c ≡ None) (sym e) free.3
 
+    note_free : at a.connections number ≡ None
+    note_free = no_connection_noted H.grants.handles H.rings a.connections a.jobs i.links number was_free
+
     -- the account's handle and page are the host's
     handle-same : next_handle a ≡ g.handle
     handle-same = ap (λ (o : Option ℕ). unwrap_or o 0) (next_handle_same H.frames H.grants a i.books ∙ accepted-map.lowest_is)
@@ -118,7 +126,7 @@ module _ {M N : Type 0} (R : Rules M) (S : Rules N) (pick : ℕ → ℕ) (a : Ac
       requests = requests_opened H.grants.handles H.rings a.connections a.jobs number (note-with g.mapping.frame g.handle) was_free refl refl i.links i.requests;
       bay0 = i.bay0;
       bay1 = i.bay1;
-      words = i.words;
+      words = words_opened H.events a.connections number (note-with g.mapping.frame g.handle) note_free i.words;
     }
 
     connected-good : Good R S pick a (account-with g.mapping.frame g.handle) w (Connect d kind reference) (record { answer = record { result = Ok (Connected number); filled = [] }; world = with_memory (connected_memory g w.memory) (with_host (connected d kind g H) w) })
@@ -140,6 +148,8 @@ module _ {M N : Type 0} (R : Rules M) (S : Rules N) (pick : ℕ → ℕ) (a : Ac
       ];
       unbroken = λ x e. let z : ◌≡◌ {A = ℕ} 0 1 = cc in omega arith;
       pending = λ d' p e z. absurd (let z : ◌≡◌ {A = ℕ} 0 1 = cc in omega arith);
+      unmarked = λ d' k r n e z x. subst (λ c. bit (word H.events x) (c + 1) ≡ 0) (number_is number n z) (unmarked H.events a.connections number x note_free i.words);
+      refused = λ e z. absurd (let y : ◌≡◌ {A = ℕ} 0 1 = cc in omega arith);
     }
 
   pub good_connect : (d kind reference : ℕ) → 0 < d → d < 8 → Good R S pick a (after R S pick a w (Connect d kind reference) (proceeds R S pick w (Connect d kind reference)).answer) w (Connect d kind reference) (proceeds R S pick w (Connect d kind reference))
@@ -185,6 +195,7 @@ module _ {M N : Type 0} (R : Rules M) (S : Rules N) (pick : ℕ → ℕ) (a : Ac
     disconnected-good =
         let below = (i.links.page c k live).below in
         let same = ended_keeps 0 k.handle a in
+        let noted = connection-noted H.grants.handles H.rings a.connections a.jobs i.links c k live in
         let hs : (released 0 k.handle H.grants).handles ≡ set H.grants.handles (key 0 k.handle) None = released-handles 0 k.handle H.grants below in
         record {
           inv = record {
@@ -200,7 +211,9 @@ module _ {M N : Type 0} (R : Rules M) (S : Rules N) (pick : ℕ → ℕ) (a : Ac
                 (requests-closed H.grants.handles H.rings a.connections a.jobs c k live idle i.links i.requests));
             bay0 = subst (λ js. BayHeld R w.bay0 BlockBay js) (sym same.1) i.bay0;
             bay1 = subst (λ js. BayHeld S w.bay1 NetBay js) (sym same.1) i.bay1;
-            words = dropped_words (dropped k.guest (port_of c) H.events) 0 (port_of c) (dropped_words H.events k.guest (port_of c) i.words);
+            words = subst (λ cs. Words (dropped 0 (port_of c) (dropped k.guest (port_of c) H.events)) (set cs c None)) (sym same.0)
+                (subst (λ g. Words (dropped 0 (port_of c) (dropped g (port_of c) H.events)) (set a.connections c None)) (ap (λ (p : Pairing). p.guest) noted.1.1)
+                (words_closed H.events a.connections c noted.0 (omega (arith, taken_inside H.rings.connections c k live, i.links.connections-size)) noted.1.0 i.words));
           };
           count = refl;
           owner = λ f h. ap (λ os. at os f) same.2;
@@ -211,6 +224,8 @@ module _ {M N : Type 0} (R : Rules M) (S : Rules N) (pick : ℕ → ℕ) (a : Ac
           ];
           unbroken = λ x e. let z : ◌≡◌ {A = ℕ} 0 1 = cc in omega arith;
           pending = λ d' p e z. absurd (let z : ◌≡◌ {A = ℕ} 0 1 = cc in omega arith);
+          unmarked = λ d' k' r n e z. absurd (let y : ◌≡◌ {A = ℕ} 0 1 = cc in omega arith);
+          refused = λ e z. absurd (let y : ◌≡◌ {A = ℕ} 0 1 = cc in omega arith);
         }
 
   pub good_disconnect : (c : ℕ) → Good R S pick a (after R S pick a w (Disconnect c) (proceeds R S pick w (Disconnect c)).answer) w (Disconnect c) (proceeds R S pick w (Disconnect c))

@@ -1,5 +1,5 @@
 -- A step is good: it keeps the invariant, and does what the law says of it. The law of one step follows.
-use Rattle.std.proofs.Common.{◌≡◌, ℕ, ◌<◌, ◌≤◌, ◌⊎◌, List, length, get_or, Some, Ok, Err, Option, Result, sym, refl, ap, ◌∙◌, subst, arith}
+use Rattle.std.proofs.Common.{◌≡◌, ℕ, ◌+◌, ◌<◌, ◌≤◌, ◌⊎◌, List, length, get_or, Some, Ok, Err, Option, Result, sym, refl, ap, ◌∙◌, subst, arith}
 use Rattle.rules.specs.Tables.{at}
 use Rattle.rules.specs.Refusal.{if_some}
 use Rattle.device.specs.Meaning.{Rules}
@@ -12,9 +12,9 @@ use Rattle.ring.specs.declared.fault.RingFault.TheVariants.{OfDevice}
 use Rattle.answer.specs.declared.fault.HostFault.{HostFault}
 use Rattle.answer.specs.declared.fault.HostFault.TheVariants.{InRing}
 use Rattle.answer.specs.declared.reply.Answer.{Answer}
-use Rattle.answer.specs.declared.reply.Answer.TheVariants.{Port}
+use Rattle.answer.specs.declared.reply.Answer.TheVariants.{Port, Connected}
 use Rattle.law.specs.World.{World, with_memory}
-use Rattle.law.specs.Call.{Call, Next, domain, Reply}
+use Rattle.law.specs.Call.{Call, Next, Connect, domain, Reply}
 use Rattle.law.specs.Step.{Ends, step, told, by_verdict}
 use Rattle.law.specs.Account.{Account, ConnectionNote, accepted, noted}
 use Rattle.law.specs.Keeps.{Keeps, Owns, Maps, Writes, InSlot, nth, responses}
@@ -50,6 +50,9 @@ module _ {M N : Type 0} (R : Rules M) (S : Rules N) (pick : ℕ → ℕ) where
     pub unbroken : (x : DeviceFault) → e.answer.result ≡ Err (InRing (OfDevice x)) → ⊥
     pub pending : (d p : ℕ) → c ≡ Next d → e.answer.result ≡ Ok (Port p)
         → ((word w.host.events d ≡ 0) × (p ≡ 0)) ⊎ (bit (word w.host.events d) p ≡ 1)
+    pub unmarked : (d kind reference n : ℕ) → c ≡ Connect d kind reference → e.answer.result ≡ Ok (Connected n)
+        → (g : ℕ) → bit (word e.world.host.events g) (n + 1) ≡ 0
+    pub refused : (f : HostFault) → e.answer.result ≡ Err f → e.world ≡ w
 
   -- other bytes where the call's domain may not look would have changed nothing
   abbrev pub Learns : Account → World M N → Call → Type 0
@@ -73,6 +76,7 @@ module _ {M N : Type 0} (R : Rules M) (S : Rules N) (pick : ℕ → ℕ) where
         mapped_as_granted = λ d h n l e. granted H.frames H.grants b i.books d h n l e;
         alters_only_its_own = λ f h. g.alters f (below f h);
         learns_only_its_own = λ m l same. learns m l (λ f h. same f (above f h));
+        refusal_alters_nothing = g.refused;
         each_request_spent = i.requests.total;
         answers_a_request = answers_one H.rings.jobs b.connections b.jobs i.requests;
         response_in_slot = g.response;
@@ -86,6 +90,8 @@ module _ {M N : Type 0} (R : Rules M) (S : Rules N) (pick : ℕ → ℕ) where
         handles_agree = i.books.handles_same;
         pins_are_mappings = λ f h. pins-mappings H.frames H.grants b i.books f;
         indices_agree = i.links.indices;
+        pending_is_live = i.words.live;
+        connect_unmarked = g.unmarked;
         next_was_pending = g.pending;
       }
 
@@ -93,22 +99,25 @@ module _ {M N : Type 0} (R : Rules M) (S : Rules N) (pick : ℕ → ℕ) where
   pub good_same : (a : Account) (w : World M N) (c : Call) (r : Reply) → Inv R S a w
       → ((x : DeviceFault) → r.result ≡ Err (InRing (OfDevice x)) → ⊥)
       → ((d p : ℕ) → c ≡ Next d → r.result ≡ Ok (Port p) → ((word w.host.events d ≡ 0) × (p ≡ 0)) ⊎ (bit (word w.host.events d) p ≡ 1))
+      → ((n : ℕ) → r.result ≡ Ok (Connected n) → ⊥)
       → Good a a w c (record { answer = r; world = w })
-  good_same a w c r i u p = record {
+  good_same a w c r i u p o = record {
     inv = i;
     count = refl;
     owner = λ f h. refl;
-    alters = λ f h o q. refl;
+    alters = λ f h mine wr. refl;
     response = λ k j n q e low high at-index. no_response a a refl k j n e low high;
     unbroken = u;
     pending = p;
+    unmarked = λ d k n' n e z. absurd (o n z);
+    refused = λ f e. refl;
   }
 
   -- a refusal
   pub good_refused : (a : Account) (w : World M N) (c : Call) (f : HostFault) → Inv R S a w → Unbroken f → Good a (after a w c (told (Err f))) w c (record { answer = told (Err f); world = w })
   unfolding noted
   good_refused a w c f i u =
-      good_same a w c (told (Err f)) i (λ x e. u x (let z : f ≡ InRing (OfDevice x) = cc in z)) (λ d p q e. absurd (let z : ◌≡◌ {A = ℕ} 0 1 = cc in omega arith))
+      good_same a w c (told (Err f)) i (λ x e. u x (let z : f ≡ InRing (OfDevice x) = cc in z)) (λ d p q e. absurd (let z : ◌≡◌ {A = ℕ} 0 1 = cc in omega arith)) (λ n e. let z : ◌≡◌ {A = ℕ} 0 1 = cc in omega arith)
 
   -- a call by a verdict: refused, or good where it is granted
   pub good_by : {T E : Type 0} (a : Account) (w : World M N) (c : Call) (g : E → HostFault) (r : Result T E) (f : T → Answer) (v : T → World M N) → Inv R S a w
@@ -121,7 +130,7 @@ module _ {M N : Type 0} (R : Rules M) (S : Rules N) (pick : ℕ → ℕ) where
 
   -- a call that leaves memory, owners and connections as they were
   pub good_quiet : (a b : Account) (w v : World M N) (c : Call) (x : Answer) → Inv R S b v → v.host.frames.count ≡ w.host.frames.count → v.memory ≡ w.memory
-      → b.owners ≡ a.owners → b.connections ≡ a.connections → ((p : ℕ) → x ≡ Port p → ⊥)
+      → b.owners ≡ a.owners → b.connections ≡ a.connections → ((p : ℕ) → (x ≡ Port p → ⊥) × (x ≡ Connected p → ⊥))
       → Good a b w c (record { answer = told (Ok x); world = v })
   good_quiet a b w v c x i n m o k p = record {
     inv = i;
@@ -130,5 +139,7 @@ module _ {M N : Type 0} (R : Rules M) (S : Rules N) (pick : ℕ → ℕ) where
     alters = λ f h mine wr. ap (frame_bytes f) m;
     response = λ k' j n q e low high at-index. no_response a b k k' j n e low high;
     unbroken = λ f e. let z : ◌≡◌ {A = ℕ} 0 1 = cc in omega arith;
-    pending = λ d q e z. absurd (p q (let y : x ≡ Port q = cc in y));
+    pending = λ d q e z. absurd ((p q).0 (let y : x ≡ Port q = cc in y));
+    unmarked = λ d q r n e z. absurd ((p n).1 (let y : x ≡ Connected n = cc in y));
+    refused = λ f e. absurd (let z : ◌≡◌ {A = ℕ} 0 1 = cc in omega arith);
   }

@@ -14,7 +14,7 @@ use Rattle.grant.specs.declared.tables.Mapping.{Mapping}
 use Rattle.grant.specs.declared.tables.Mode.TheVariants.{Write}
 use Rattle.grant.specs.declared.tables.Grants.{Grants}
 use Rattle.grant_law.specs.Sound.{Sound}
-use Rattle.event.specs.Pending.{word}
+use Rattle.event.specs.Pending.{word, bit}
 use Rattle.event.specs.declared.pending.Events.{Events}
 use Rattle.ringpage.specs.declared.slot.Request.{Request}
 use Rattle.request.specs.Content.{id_of, operation_of}
@@ -27,7 +27,7 @@ use Rattle.connection.specs.declared.tables.Rings.{Rings}
 use Rattle.backend.specs.Segments.{mode_for}
 use Rattle.law.specs.World.{World}
 use Rattle.law.specs.Account.{Account, MappingNote, ConnectionNote, JobNote}
-use Rattle.law.specs.Keeps.{nth, on_connection, on_frame, under_ticket, handed, host_pairing, noted_pairing, host_work, noted_work, Counted}
+use Rattle.law.specs.Keeps.{LiveEnd, nth, on_connection, on_frame, under_ticket, handed, host_pairing, noted_pairing, host_work, noted_work, Counted}
 
 -- frames, entries and mappings: the tables are sound, and what the account has of them is theirs
 pub record Books (F : Frames) (G : Grants) (owners : List (Option ℕ)) (entries : List GrantEntry) (mappings : List (Option MappingNote)) (maps unmaps : List ℕ) : Type 0 where
@@ -137,9 +137,10 @@ pub record Requests (held : List (Option Job)) (conns : List (Option ConnectionN
 abbrev pub BayHeld : {X : Type 0} → Rules X → X → Bay → List (Option JobNote) → Type 0
 BayHeld D x b jobs = (t : ℕ) → under_ticket t (D.orders x) ≡ handed b (at jobs t)
 
--- a domain's marks are 32 bits
-abbrev pub Words : Events → Type 0
-Words E = (d : ℕ) → word E d < 2 ^ 32
+-- a domain's marks are 32 bits, and each marked port is its end of a live connection
+pub record Words (E : Events) (conns : List (Option ConnectionNote)) : Type 0 where
+  pub small : (d : ℕ) → word E d < 2 ^ 32
+  pub live : (d p : ℕ) → bit (word E d) p ≡ 1 → LiveEnd conns d p
 
 pub record Inv {M N : Type 0} (R : Rules M) (S : Rules N) (a : Account) (w : World M N) : Type 0 where
   pub few : w.host.frames.count ≤ 256
@@ -149,4 +150,4 @@ pub record Inv {M N : Type 0} (R : Rules M) (S : Rules N) (a : Account) (w : Wor
   pub requests : Requests w.host.rings.jobs a.connections a.jobs
   pub bay0 : BayHeld R w.bay0 BlockBay a.jobs
   pub bay1 : BayHeld S w.bay1 NetBay a.jobs
-  pub words : Words w.host.events
+  pub words : Words w.host.events a.connections

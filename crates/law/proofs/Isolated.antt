@@ -92,20 +92,20 @@ module _ {M N : Type 0} (R : Rules M) (S : Rules N) (pick : ℕ → ℕ) where
         by : (b : Bay) → serving_bay (connection_at w.host.rings c) ≡ b → Good R S pick a (after R S pick a w (Serve c) (served_in R S b c w).answer) w (Serve c) (served_in R S b c w)
         by BlockBay e = subst (λ (z : Account). Good R S pick a z w (Serve c) (served_in R S BlockBay c w))
             (sym (ring_noted R S a (Serve c) (served R c w.host w.memory w.bay0).answer w.memory w.bay0 w.bay1 (λ z. serve_noted c z w.memory a) (λ z. refl)))
-            (good_bay0 R S pick a w i (Serve c) refl (λ d q. let y : ◌≡◌ {A = ℕ} 0 1 = cc in omega arith) _ (served R c w.host w.memory w.bay0) (served_good R lr BlockBay a w.host w.memory w.bay0 (host_inv R S a w i) i.bay0 c (here BlockBay e)))
+            (good_bay0 R S pick a w i (Serve c) refl (λ d q. let y : ◌≡◌ {A = ℕ} 0 1 = cc in omega arith) (λ d k n q. let y : ◌≡◌ {A = ℕ} 0 1 = cc in omega arith) _ (served R c w.host w.memory w.bay0) (served_good R lr BlockBay a w.host w.memory w.bay0 (host_inv R S a w i) i.bay0 c (here BlockBay e)))
         by NetBay e = subst (λ (z : Account). Good R S pick a z w (Serve c) (served_in R S NetBay c w))
             (sym (ring_noted R S a (Serve c) (served S c w.host w.memory w.bay1).answer w.memory w.bay0 w.bay1 (λ z. serve_noted c z w.memory a) (λ z. refl)))
-            (good_bay1 R S pick a w i (Serve c) refl (λ d q. let y : ◌≡◌ {A = ℕ} 0 1 = cc in omega arith) _ (served S c w.host w.memory w.bay1) (served_good S ls NetBay a w.host w.memory w.bay1 (host_inv R S a w i) i.bay1 c (here NetBay e)))
+            (good_bay1 R S pick a w i (Serve c) refl (λ d q. let y : ◌≡◌ {A = ℕ} 0 1 = cc in omega arith) (λ d k n q. let y : ◌≡◌ {A = ℕ} 0 1 = cc in omega arith) _ (served S c w.host w.memory w.bay1) (served_good S ls NetBay a w.host w.memory w.bay1 (host_inv R S a w i) i.bay1 c (here NetBay e)))
 
     -- complete, in either bay
     complete-in : (n : ℕ) (b : Bay) → bay_numbered n ≡ b → Good R S pick a (after R S pick a w (Complete n) (completed_in R S b w).answer) w (Complete n) (completed_in R S b w)
     unfolding accepted
     complete-in n BlockBay e = subst (λ (z : Account). Good R S pick a z w (Complete n) (completed_in R S BlockBay w))
         (sym (ring_noted R S a (Complete n) (completed R BlockBay w.host w.memory w.bay0).answer w.memory w.bay0 w.bay1 (λ z. complete_noted z (ready_ticket R w.bay0) a) (λ z. ap (λ (b : Bay). complete_noted z (ready_in R S b w.bay0 w.bay1) a) e)))
-        (good_bay0 R S pick a w i (Complete n) refl (λ d q. let y : ◌≡◌ {A = ℕ} 0 1 = cc in omega arith) _ (completed R BlockBay w.host w.memory w.bay0) (completed_good R lr BlockBay a w.host w.memory w.bay0 (host_inv R S a w i) i.bay0))
+        (good_bay0 R S pick a w i (Complete n) refl (λ d q. let y : ◌≡◌ {A = ℕ} 0 1 = cc in omega arith) (λ d k n q. let y : ◌≡◌ {A = ℕ} 0 1 = cc in omega arith) _ (completed R BlockBay w.host w.memory w.bay0) (completed_good R lr BlockBay a w.host w.memory w.bay0 (host_inv R S a w i) i.bay0))
     complete-in n NetBay e = subst (λ (z : Account). Good R S pick a z w (Complete n) (completed_in R S NetBay w))
         (sym (ring_noted R S a (Complete n) (completed S NetBay w.host w.memory w.bay1).answer w.memory w.bay0 w.bay1 (λ z. complete_noted z (ready_ticket S w.bay1) a) (λ z. ap (λ (b : Bay). complete_noted z (ready_in R S b w.bay0 w.bay1) a) e)))
-        (good_bay1 R S pick a w i (Complete n) refl (λ d q. let y : ◌≡◌ {A = ℕ} 0 1 = cc in omega arith) _ (completed S NetBay w.host w.memory w.bay1) (completed_good S ls NetBay a w.host w.memory w.bay1 (host_inv R S a w i) i.bay1))
+        (good_bay1 R S pick a w i (Complete n) refl (λ d q. let y : ◌≡◌ {A = ℕ} 0 1 = cc in omega arith) (λ d k n q. let y : ◌≡◌ {A = ℕ} 0 1 = cc in omega arith) _ (completed S NetBay w.host w.memory w.bay1) (completed_good S ls NetBay a w.host w.memory w.bay1 (host_inv R S a w i) i.bay1))
 
     good-complete : (b : ℕ) → Good R S pick a (after R S pick a w (Complete b) (proceeds R S pick w (Complete b)).answer) w (Complete b) (proceeds R S pick w (Complete b))
     unfolding proceeds
@@ -161,7 +161,7 @@ module _ {M N : Type 0} (R : Rules M) (S : Rules N) (pick : ℕ → ℕ) where
         requests = subst (λ (H : Tables). Requests H.rings.jobs nothing_yet.connections nothing_yet.jobs) host requests-start;
         bay0 = λ t. ap (under_ticket t) s.idle0 ∙ sym (ap (handed BlockBay) (at-replicate 12 t None));
         bay1 = λ t. ap (under_ticket t) s.idle1 ∙ sym (ap (handed NetBay) (at-replicate 12 t None));
-        words = subst (λ (H : Tables). Words H.events) host words_start;
+        words = subst (λ (H : Tables). Words H.events nothing_yet.connections) host (words_start nothing_yet.connections);
       }
 
   -- each step keeps the invariant, and the law

@@ -21,12 +21,18 @@ use Rattle.backend.specs.Respond.{responded_rings}
 use Rattle.law.specs.Account.{ConnectionNote, JobNote, with_request, with_response}
 use Rattle.law.specs.Keeps.{Pairing, host_pairing, noted_pairing, host_work, noted_work, Counted}
 use Rattle.law.proofs.Inv.{Links, PageMapped, SegmentMapped, JobHeld, ring_has, segments_with, handle_uses, no_part}
-use Rattle.law.proofs.Tickets.{none_some, same_some, taken_inside, at_set, set_taken, at-replicate, mapped_too, same_places, same_some_ness, same_set, two_in_sum, free_ticket, ticket_range}
+use Rattle.law.proofs.Tickets.{none_some, same_some, taken_inside, at_set, set_taken, at-replicate, mapped_too, free_too, same_places, same_some_ness, same_set, two_in_sum, free_ticket, ticket_range}
 
 -- the host's tables and the account's are taken or free at the same places
 module _ (hs : List (Option Mapping)) (C : Rings) (conns : List (Option ConnectionNote)) (jobs : List (Option JobNote)) (L : Links hs C conns jobs) where
   pub connection-noted : (c : ℕ) (k : Connection) → at C.connections c ≡ Some k → (n : ConnectionNote) × ((at conns c ≡ Some n) × (noted_pairing n ≡ host_pairing k))
   connection-noted c k e = mapped_too host_pairing noted_pairing (at C.connections c) (at conns c) k (same_places host_pairing noted_pairing C.connections conns L.connections_same c) e
+
+  pub no_connection_noted : (c : ℕ) → at C.connections c ≡ None → at conns c ≡ None
+  no_connection_noted c e = free_too host_pairing noted_pairing (at C.connections c) (at conns c) (same_places host_pairing noted_pairing C.connections conns L.connections_same c) e
+
+  pub no_job_noted : (t : ℕ) → at C.jobs t ≡ None → at jobs t ≡ None
+  no_job_noted t e = free_too host_work noted_work (at C.jobs t) (at jobs t) (same_places host_work noted_work C.jobs jobs L.jobs_same t) e
 
   pub job_noted_too : (t : ℕ) (j : Job) → at C.jobs t ≡ Some j → (x : JobNote) × ((at jobs t ≡ Some x) × (noted_work x ≡ host_work j))
   job_noted_too t j e = mapped_too host_work noted_work (at C.jobs t) (at jobs t) j (same_places host_work noted_work C.jobs jobs L.jobs_same t) e

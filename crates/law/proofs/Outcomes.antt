@@ -15,10 +15,11 @@ use Rattle.connection.specs.declared.kinds.Bay.{Bay}
 use Rattle.connection.specs.declared.kinds.Bay.TheVariants.{BlockBay, NetBay}
 use Rattle.connection.specs.declared.tables.Connection.{Connection}
 use Rattle.backend.specs.declared.tables.Tables.{Tables}
+use Rattle.answer.specs.declared.fault.HostFault.{HostFault}
 use Rattle.answer.specs.declared.fault.HostFault.TheVariants.{InRing}
 use Rattle.answer.specs.declared.reply.Answer.{Answer}
 use Rattle.law.specs.World.{World}
-use Rattle.law.specs.Call.{Call, Next, domain}
+use Rattle.law.specs.Call.{Call, Next, Connect, domain}
 use Rattle.law.specs.Serve.{Outcome}
 use Rattle.law.specs.Step.{told, passed_up, by_bay0, by_bay1}
 use Rattle.law.specs.Account.{Account, ConnectionNote, accepted, noted}
@@ -34,7 +35,7 @@ pub record HostInv (a : Account) (H : Tables) (m : List ℕ) : Type 0 where
   pub books : BooksOf H.frames H.grants a
   pub links : Links H.grants.handles H.rings a.connections a.jobs
   pub requests : Requests H.rings.jobs a.connections a.jobs
-  pub words : Words H.events
+  pub words : Words H.events a.connections
 
 pub host_inv : {M N : Type 0} (R : Rules M) (S : Rules N) (a : Account) (w : World M N) → Inv R S a w → HostInv a w.host w.memory
 host_inv R S a w i = record { few = i.few; memory = i.memory; books = i.books; links = i.links; requests = i.requests; words = i.words }
@@ -60,11 +61,17 @@ module _ {X : Type 0} (D : Rules X) (b : Bay) (a : Account) (H : Tables) (m : Li
     pub response : (k j : ℕ) (n : ConnectionNote) (q : Request) → at b'.connections k ≡ Some n
         → responses a k ≤ j → j < length n.answered → nth n.requests (get_or n.answered j 0) ≡ Some q → InSlot n j q o.memory
     pub unbroken : (e : DeviceFault) → o.answer ≡ Err (OfDevice e) → ⊥
+    pub refused : (e : RingFault) → o.answer ≡ Err e → (o.host ≡ H) × (o.memory ≡ m) × (o.device ≡ x)
 
 -- a fault of a device is passed up only where the layer of rings says so
 ring_unbroken : (r : Result Answer RingFault) (e : DeviceFault) → ((z : DeviceFault) → r ≡ Err (OfDevice z) → ⊥) → passed_up InRing (λ x. x) r ≡ Err (InRing (OfDevice e)) → ⊥
 ring_unbroken (Ok y) e u q = let z : ◌≡◌ {A = ℕ} 0 1 = cc in omega arith
 ring_unbroken (Err f) e u q = u e (let z : ◌≡◌ {A = Result Answer RingFault} (Err f) (Err (OfDevice e)) = cc in z)
+
+-- a fault that is passed up is the layer of rings'
+passed-fault : (r : Result Answer RingFault) (f : HostFault) → passed_up InRing (λ x. x) r ≡ Err f → (e : RingFault) × (r ≡ Err e)
+passed-fault (Ok y) f q = absurd (let z : ◌≡◌ {A = ℕ} 0 1 = cc in omega arith)
+passed-fault (Err e) f q = (e, refl)
 
 -- serve and complete: the account after them, by the answer of the layer of rings
 pub ring_noted : {M N : Type 0} (R : Rules M) (S : Rules N) (a : Account) (c : Call) (r : Result Answer RingFault) (m : List ℕ) (x : M) (y : N) (f : Answer → Account)
@@ -73,7 +80,7 @@ unfolding noted
 ring_noted R S a c (Ok z) m x y f e = e z
 ring_noted R S a c (Err z) m x y f e = refl
 
-module _ {M N : Type 0} (R : Rules M) (S : Rules N) (pick : ℕ → ℕ) (a : Account) (w : World M N) (i : Inv R S a w) (c : Call) (actor : domain c ≡ 0) (no-next : (d : ℕ) → c ≡ Next d → ⊥) where
+module _ {M N : Type 0} (R : Rules M) (S : Rules N) (pick : ℕ → ℕ) (a : Account) (w : World M N) (i : Inv R S a w) (c : Call) (actor : domain c ≡ 0) (no-next : (d : ℕ) → c ≡ Next d → ⊥) (no-connect : (d k n : ℕ) → c ≡ Connect d k n → ⊥) where
   -- a good outcome in either bay is a good step
   pub good_bay0 : (b : Account) (o : Outcome M) → OutcomeGood R BlockBay a w.host w.memory w.bay0 b o → Good R S pick a b w c (by_bay0 w o)
   good_bay0 b o g = record {
@@ -93,6 +100,12 @@ module _ {M N : Type 0} (R : Rules M) (S : Rules N) (pick : ℕ → ℕ) (a : Ac
     response = g.response;
     unbroken = λ e q. ring_unbroken o.answer e g.unbroken q;
     pending = λ d p e z. absurd (no-next d e);
+    unmarked = λ d k n l e z. absurd (no-connect d k n e);
+    refused = λ f q.
+        let same = g.refused (passed-fault o.answer f q).0 (passed-fault o.answer f q).1 in
+        ap (λ (h : Tables). record { host = h; memory = o.memory; bay0 = o.device; bay1 = w.bay1 }) same.0
+        ∙ ap (λ mm. record { host = w.host; memory = mm; bay0 = o.device; bay1 = w.bay1 }) same.1
+        ∙ ap (λ (y : M). record { host = w.host; memory = w.memory; bay0 = y; bay1 = w.bay1 }) same.2;
   }
 
   pub good_bay1 : (b : Account) (o : Outcome N) → OutcomeGood S NetBay a w.host w.memory w.bay1 b o → Good R S pick a b w c (by_bay1 w o)
@@ -113,4 +126,10 @@ module _ {M N : Type 0} (R : Rules M) (S : Rules N) (pick : ℕ → ℕ) (a : Ac
     response = g.response;
     unbroken = λ e q. ring_unbroken o.answer e g.unbroken q;
     pending = λ d p e z. absurd (no-next d e);
+    unmarked = λ d k n l e z. absurd (no-connect d k n e);
+    refused = λ f q.
+        let same = g.refused (passed-fault o.answer f q).0 (passed-fault o.answer f q).1 in
+        ap (λ (h : Tables). record { host = h; memory = o.memory; bay0 = w.bay0; bay1 = o.device }) same.0
+        ∙ ap (λ mm. record { host = w.host; memory = mm; bay0 = w.bay0; bay1 = o.device }) same.1
+        ∙ ap (λ (y : N). record { host = w.host; memory = w.memory; bay0 = w.bay0; bay1 = y }) same.2;
   }

@@ -33,7 +33,7 @@ module _ {M N : Type 0} (R : Rules M) (S : Rules N) (pick : ℕ → ℕ) where
         requests = subst (λ (H : Tables). Requests H.rings.jobs a.connections a.jobs) h i.requests;
         bay0 = λ t. ap (under_ticket t) k.orders0 ∙ i.bay0 t;
         bay1 = λ t. ap (under_ticket t) k.orders1 ∙ i.bay1 t;
-        words = subst (λ (H : Tables). Words H.events) h i.words;
+        words = subst (λ (H : Tables). Words H.events a.connections) h i.words;
       }
 
   along : StepsKeep → (h : History M N) (w : World M N) → Reaches R S pick h w → Inv R S (account R S h) w × Lawful R S pick h

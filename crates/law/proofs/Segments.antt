@@ -7,7 +7,7 @@ use Rattle.rules.specs.Refusal.{either_of}
 use Rattle.rules.specs.Tables.{at}
 use Rattle.device.specs.declared.transfer.Part.{Part}
 use Rattle.frame.specs.declared.owners.Frames.{Frames}
-use Rattle.grant.specs.Tables.{key}
+use Rattle.grant.specs.Tables.{blank, place, key}
 use Rattle.grant.specs.Map.{Grant, map_verdict, mode_of}
 use Rattle.grant.specs.Pin.{pin}
 use Rattle.grant.specs.declared.tables.Mapping.{Mapping}
@@ -16,7 +16,7 @@ use Rattle.request.specs.declared.content.Span.{Span}
 use Rattle.connection.specs.Tables.{handles_of, parts_of}
 use Rattle.connection.specs.declared.tables.Job.{Job}
 use Rattle.backend.specs.Segments.{mode_for, part_in, with_segment, MappingDone, pin_all}
-use Rattle.law.specs.Account.{Account, mapping_noted, next_handle, spans_noted}
+use Rattle.law.specs.Account.{Account, mapping_noted, next_handle, part_of, spans_noted}
 use Rattle.law.proofs.Inv.{BooksOf, SegmentMapped, no_part}
 use Rattle.law.proofs.Books.{MapAccepted, map-accepted, owns_parts, books_pinned, next_handle_same}
 use Rattle.law.proofs.Spans.{no_span}
@@ -80,6 +80,12 @@ module _ (F : Frames) (G : Grants) (a : Account) (guest i : ℕ) (j : Job) (s : 
   part-start : s.start + s.length ≤ 4096 → (part_in g.mapping.frame s).start ≡ 4096 * g.mapping.frame + s.start
   part-start l = let below : g.mapping.frame < 256 = frame-below in omega arith
 
+  -- the account's part is the one that is put down
+  pub part_is : s.start + s.length ≤ 4096 → part_of (get_or a.entries (place guest s.reference) blank).frame s ≡ part_in g.mapping.frame s
+  part_is l =
+      ap (λ f. part_of f s) (sym (ap (λ (p : Mapping). p.frame) yes.mapping ∙ books.frame_same (place guest s.reference)))
+      ∙ ap (λ n. record { start = n; length = s.length }) (sym (part-start l))
+
   -- the account's next handle is the one granted
   pub next_is : next_handle a ≡ g.handle
   next_is = ap (λ (o : Option ℕ). unwrap_or o 0) (next_handle_same F G a books ∙ yes.lowest_is)
@@ -104,8 +110,8 @@ module _ (F : Frames) (G : Grants) (a : Account) (guest i : ℕ) (j : Job) (s : 
   pub next_handles : handles_of next_job ≡ handles_of j ++ g.handle ∷ []
   next_handles = rw count (take_more_set j.handles i g.handle (omega arith))
 
-  next-parts : parts_of next_job ≡ parts_of j ++ part_in g.mapping.frame s ∷ []
-  next-parts = rw count (take_more_set j.parts i (part_in g.mapping.frame s) (omega arith))
+  pub next_parts : parts_of next_job ≡ parts_of j ++ part_in g.mapping.frame s ∷ []
+  next_parts = rw count (take_more_set j.parts i (part_in g.mapping.frame s) (omega arith))
 
   -- the handle granted has its place in the table
   key-inside : key 0 g.handle < length G.handles
@@ -138,7 +144,7 @@ module _ (F : Frames) (G : Grants) (a : Account) (guest i : ℕ) (j : Job) (s : 
 
   -- the job's parts are longer by the span
   more_bytes : sum_by (λ (p : Part). p.length) (parts_of next_job) ≡ sum_by (λ (p : Part). p.length) (parts_of j) + s.length
-  more_bytes = ap (sum_by (λ (p : Part). p.length)) next-parts ∙ sum_by_push (λ (p : Part). p.length) (parts_of j) (part_in g.mapping.frame s)
+  more_bytes = ap (sum_by (λ (p : Part). p.length)) next_parts ∙ sum_by_push (λ (p : Part). p.length) (parts_of j) (part_in g.mapping.frame s)
 
   module _ (G' : Grants) (a' : Account) (j' : Job) (ss : List Span) (r : AllPinned F next_grants G' next_account a' (i + 1) next_job j' ss) where
     -- the segment number i is mapped
@@ -190,13 +196,16 @@ module _ (F : Frames) (G : Grants) (a : Account) (guest i : ℕ) (j : Job) (s : 
       segments = more-segments;
     }
 
--- every segment is mapped, and noted under the same handles
-pub segments_pinned : (F : Frames) (G : Grants) (a : Account) (guest i : ℕ) (j : Job) (ss : List Span) (hs : List ℕ)
-    → BooksOf F G a → j.count ≡ i → i + length ss ≤ 11 → length j.handles ≡ 11 → length j.parts ≡ 11 → hs ≡ handles_of j
+-- every segment is mapped, and noted under the same handles and in the same places
+pub segments_pinned : (F : Frames) (G : Grants) (a : Account) (guest i : ℕ) (j : Job) (ss : List Span) (hs : List ℕ) (ps : List Part)
+    → BooksOf F G a → j.count ≡ i → i + length ss ≤ 11
+    → ((n : ℕ) → n < length ss → (get_or ss n no_span).start + (get_or ss n no_span).length ≤ 4096)
+    → length j.handles ≡ 11 → length j.parts ≡ 11 → hs ≡ handles_of j → ps ≡ parts_of j
     → (pin_all F guest i j G ss).fault ≡ None
-    → AllPinned F G (pin_all F guest i j G ss).grants a (spans_noted guest (mode_of (mode_for j.direction)) hs a ss).account i j (pin_all F guest i j G ss).job ss
-    × ((spans_noted guest (mode_of (mode_for j.direction)) hs a ss).handles ≡ handles_of (pin_all F guest i j G ss).job)
-segments_pinned F G a guest i j [] hs b c few hl pl e f = (
+    → AllPinned F G (pin_all F guest i j G ss).grants a (spans_noted guest (mode_of (mode_for j.direction)) hs ps a ss).account i j (pin_all F guest i j G ss).job ss
+    × ((spans_noted guest (mode_of (mode_for j.direction)) hs ps a ss).handles ≡ handles_of (pin_all F guest i j G ss).job)
+    × ((spans_noted guest (mode_of (mode_for j.direction)) hs ps a ss).parts ≡ parts_of (pin_all F guest i j G ss).job)
+segments_pinned F G a guest i j [] hs ps b c few inside hl pl e d f = (
   record {
     books = b;
     count = omega arith;
@@ -217,21 +226,27 @@ segments_pinned F G a guest i j [] hs b c few hl pl e f = (
     segments = λ l n low high. absurd (omega arith);
   },
   e,
+  d,
 )
-segments_pinned F G a guest i j (s ∷ ss) hs b c few hl pl e f =
+segments_pinned F G a guest i j (s ∷ ss) hs ps b c few inside hl pl e d f =
     by_either
     (λ (m : MappingDone). m.fault ≡ None
-    → AllPinned F G m.grants a (spans_noted guest (mode_of (mode_for j.direction)) hs a (s ∷ ss)).account i j m.job (s ∷ ss)
-    × ((spans_noted guest (mode_of (mode_for j.direction)) hs a (s ∷ ss)).handles ≡ handles_of m.job))
+    → AllPinned F G m.grants a (spans_noted guest (mode_of (mode_for j.direction)) hs ps a (s ∷ ss)).account i j m.job (s ∷ ss)
+    × ((spans_noted guest (mode_of (mode_for j.direction)) hs ps a (s ∷ ss)).handles ≡ handles_of m.job)
+    × ((spans_noted guest (mode_of (mode_for j.direction)) hs ps a (s ∷ ss)).parts ≡ parts_of m.job))
     (map_verdict F G 0 guest s.reference (mode_for j.direction))
     _ _
     (λ g ok p.
     let l : i < 11 = omega arith in
     let j1 : Job = next_job F G a guest i j s g b c l hl pl ok in
+    let here : part_of (get_or a.entries (place guest s.reference) blank).frame s ≡ part_in g.mapping.frame s = part_is F G a guest i j s g b c l hl pl ok (inside 0 (omega arith)) in
     let same : hs ++ next_handle a ∷ [] ≡ handles_of j1 = rw (e, next_is F G a guest i j s g b c l hl pl ok) (sym (next_handles F G a guest i j s g b c l hl pl ok)) in
+    let place_same : ps ++ part_of (get_or a.entries (place guest s.reference) blank).frame s ∷ [] ≡ parts_of j1 =
+        ap (λ xs. xs ++ part_of (get_or a.entries (place guest s.reference) blank).frame s ∷ []) d ∙ ap (λ x. parts_of j ++ x ∷ []) here ∙ sym (next_parts F G a guest i j s g b c l hl pl ok) in
     let r = segments_pinned F (next_grants F G a guest i j s g b c l hl pl ok) (next_account F G a guest i j s g b c l hl pl ok) guest (i + 1) j1 ss
-    (hs ++ next_handle a ∷ []) (next_books F G a guest i j s g b c l hl pl ok) refl (omega arith)
-    (length-set j.handles i g.handle ∙ hl) (length-set j.parts i (part_in g.mapping.frame s) ∙ pl) same p in
-    (one_more F G a guest i j s g b c l hl pl ok _ _ _ ss r.0, r.1))
+    (hs ++ next_handle a ∷ []) (ps ++ part_of (get_or a.entries (place guest s.reference) blank).frame s ∷ []) (next_books F G a guest i j s g b c l hl pl ok) refl (omega arith)
+    (λ n below. inside (suc n) (omega arith))
+    (length-set j.handles i g.handle ∙ hl) (length-set j.parts i (part_in g.mapping.frame s) ∙ pl) same place_same p in
+    (one_more F G a guest i j s g b c l hl pl ok _ _ _ ss r.0, r.1, r.2))
     (λ x no p. absurd (let z : ◌≡◌ {A = ℕ} 0 1 = cc in omega arith))
     f

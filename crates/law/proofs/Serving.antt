@@ -45,16 +45,16 @@ use Rattle.law.specs.World.{with_grants, with_rings}
 use Rattle.law.specs.Serve.{Outcome, answered_now, handed_over, segments_mapped, spent, served_on, served}
 use Rattle.law.specs.Account.{Account, ConnectionNote, JobNote, SpansNoted, next_noted, with_request, with_response, answer_noted, job_noted, serve_noted, spans_noted, noted_connection, noted_job}
 use Rattle.law.specs.Keeps.{Writes, InSlot, nth, responses, handed, Pairing, host_pairing, noted_pairing, Work, host_work, noted_work}
-use Rattle.law.proofs.Inv.{Links, Requests, BayHeld, SegmentMapped, no_part}
+use Rattle.law.proofs.Inv.{Links, Requests, BayHeld, Words, SegmentMapped, no_part}
 use Rattle.law.proofs.Books.{frame-owned, owns_parts}
-use Rattle.law.proofs.Links.{connection-noted, job-held_too, next_ticket_same, links_answered, links_handed, job_notes_size}
+use Rattle.law.proofs.Links.{connection-noted, no_job_noted, next_ticket_same, links_answered, links_handed, job_notes_size}
 use Rattle.law.proofs.Requested.{requests-answered, requests-handed}
-use Rattle.law.proofs.Tickets.{at_set, taken_inside, same_some, none_some, free_ticket, ticket_range}
+use Rattle.law.proofs.Tickets.{at_set, set_taken, taken_inside, same_some, none_some, free_ticket, ticket_range}
 use Rattle.law.proofs.Segments.{AllPinned, segments_pinned}
 use Rattle.law.proofs.Undoing.{Undone, segments_refused, segments_undone}
 use Rattle.law.proofs.Spans.{no_span, checked-spans}
 use Rattle.law.proofs.Bytes.{put_size, put_others, page_there, responded-size, responded-others, response_stands, slot-shown, request_shown}
-use Rattle.law.proofs.Marks.{responded_words}
+use Rattle.law.proofs.Marks.{words_kept, responded_words}
 use Rattle.law.proofs.Bays.{under-accepted}
 use Rattle.law.proofs.Cases.{by_either, by_some, by_cond}
 use Rattle.law.proofs.Good.{no_response}
@@ -97,9 +97,11 @@ response_noted a c old new index k q₀ status m there grown kind page asked-for
       | inr other ↦ no_response a a refl c' j n other.1 low high
     ]
 
-work_is : (c c' : ℕ) (k k' : Kind) (n n' : ℕ) (h h' : List ℕ) → c ≡ c' → k ≡ k' → n ≡ n' → h ≡ h'
-    → ◌≡◌ {A = Work} (record { connection = c; kind = k; id = n; handles = h }) (record { connection = c'; kind = k'; id = n'; handles = h' })
-work_is c c' k k' n n' h h' e f g l = cc
+work_is : (c c' : ℕ) (k k' : Kind) (n n' o o' : ℕ) (d d' : Direction) (h h' : List ℕ) (p p' : List Part)
+    → c ≡ c' → k ≡ k' → n ≡ n' → o ≡ o' → d ≡ d' → h ≡ h' → p ≡ p'
+    → ◌≡◌ {A = Work} (record { connection = c; kind = k; id = n; operation = o; direction = d; handles = h; parts = p })
+    (record { connection = c'; kind = k'; id = n'; operation = o'; direction = d'; handles = h'; parts = p' })
+work_is c c' k k' n n' o o' d d' h h' p p' ec ek en eo ed eh ep = cc
 
 -- a device is in one bay
 pub bays_apart : (x b d : Bay) → same_bay x b ≡ true → same_bay b d ≡ false → same_bay x d ≡ false
@@ -165,6 +167,7 @@ module _ {X : Type 0} (D : Rules X) (laws : Laws D) (b : Bay) (a : Account) (H :
     alters = λ f h wr. refl;
     response = λ k j n q e low high at-index. no_response a a refl k j n e low high;
     unbroken = u;
+    refused = λ e q. (refl, refl, refl);
   }
 
   -- a good outcome, with the account that serve's answer makes
@@ -244,6 +247,7 @@ module _ {X : Type 0} (D : Rules X) (laws : Laws D) (b : Bay) (a : Account) (H :
       alters = λ f h wr. only-page (event_asked k m) (λ g n. put_others m k.page 4 (le 4 (next_index k.req_cons)) g n) f wr;
       response = λ k j n q e low high at-index. no_response a a refl k j n e low high;
       unbroken = λ e q. let z : ◌≡◌ {A = ℕ} 0 1 = cc in omega arith;
+      refused = λ e q. absurd (let z : ◌≡◌ {A = ℕ} 0 1 = cc in omega arith);
     }
 
     -- the request is answered at once; what was mapped for it is unmapped again
@@ -263,7 +267,9 @@ module _ {X : Type 0} (D : Rules X) (laws : Laws D) (b : Bay) (a : Account) (H :
           links = subst (λ hs. Links hs (responded_rings c (consumed k) (consumed_on c k H.rings)) (set a.connections c (Some (with_response (length note.requests) (with_request taken note)))) a.jobs) (sym undone.handles)
               (links_answered H.grants.handles H.rings a.connections a.jobs c k note taken (length note.requests) live there i.links);
           requests = requests-answered H.grants.handles H.rings a.connections a.jobs c note taken there i.links i.requests;
-          words = responded_words H.events c (consumed k) memory-then below i.words;
+          words = responded_words H.events (set a.connections c (Some (with_response (length note.requests) (with_request taken note)))) c (consumed k) (with_response (length note.requests) (with_request taken note)) memory-then below
+              (set_taken a.connections c (Some (with_response (length note.requests) (with_request taken note))) note there) (sym guest-same)
+              (words_kept H.events a.connections c note (with_response (length note.requests) (with_request taken note)) there refl i.words);
         };
         count = refl;
         bay = held;
@@ -273,6 +279,7 @@ module _ {X : Type 0} (D : Rules X) (laws : Laws D) (b : Bay) (a : Account) (H :
         response = response_noted a c note (with_response (length note.requests) (with_request taken note)) (length note.requests) (consumed k) taken (status_of f.fault) m
             there refl kind-same page-same (nth_push note.requests taken) (i.links.indices c k note live there).produced page-inside;
         unbroken = λ e q. let z : ◌≡◌ {A = ℕ} 0 1 = cc in omega arith;
+        refused = λ e q. absurd (let z : ◌≡◌ {A = ℕ} 0 1 = cc in omega arith);
       }
 
     -- what the account has after an answer
@@ -313,10 +320,10 @@ module _ {X : Type 0} (D : Rules X) (laws : Laws D) (b : Bay) (a : Account) (H :
         ticket = next_ticket H.rings.jobs c
 
         abbrev segments : ℕ → SpansNoted
-        segments guest = spans_noted guest (mode_of (mode_for (direction_of taken))) [] a (spans_of taken)
+        segments guest = spans_noted guest (mode_of (mode_for (direction_of taken))) [] [] a (spans_of taken)
 
         abbrev job-note : ℕ → ℕ → JobNote
-        job-note t guest = record { connection = c; kind = note.kind; index = length note.requests; id = id_of taken; handles = (segments guest).handles; order = order_for t (asked taken) }
+        job-note t guest = record { connection = c; kind = note.kind; index = length note.requests; id = id_of taken; operation = operation_of taken; handles = (segments guest).handles; parts = (segments guest).parts; order = order_for t (asked taken) }
 
         abbrev account-then : ℕ → ℕ → Account
         account-then t guest = noted_job t (Some (job-note t guest)) (noted_connection c (Some (with_request taken note)) (segments guest).account)
@@ -326,26 +333,21 @@ module _ {X : Type 0} (D : Rules X) (laws : Laws D) (b : Bay) (a : Account) (H :
             ap (λ t. account-then t note.guest) (next_ticket_same H.grants.handles H.rings a.connections a.jobs i.links c)
             ∙ ap (account-then ticket) guest-same
 
-        both : AllPinned H.frames H.grants pinned.grants a (segments k.guest).account 0 fresh-job pinned.job (spans_of taken) × ((segments k.guest).handles ≡ handles_of pinned.job)
-        both = segments_pinned H.frames H.grants a k.guest 0 fresh-job (spans_of taken) [] i.books refl (let l : 0 + length (spans_of taken) ≤ 11 = omega (arith, good-spans.1) in l) refl refl refl all
+        both : AllPinned H.frames H.grants pinned.grants a (segments k.guest).account 0 fresh-job pinned.job (spans_of taken)
+            × ((segments k.guest).handles ≡ handles_of pinned.job) × ((segments k.guest).parts ≡ parts_of pinned.job)
+        both = segments_pinned H.frames H.grants a k.guest 0 fresh-job (spans_of taken) [] [] i.books refl (let l : 0 + length (spans_of taken) ≤ 11 = omega (arith, good-spans.1) in l) good-spans.2 refl refl refl refl all
 
         ticket_free : at H.rings.jobs ticket ≡ None
         ticket_free = free_ticket H.rings.jobs c few-jobs
 
         note-free : at a.jobs ticket ≡ None
-        note-free = by (at a.jobs ticket) refl
-          where
-            by : (o : Option JobNote) → at a.jobs ticket ≡ o → at a.jobs ticket ≡ None
-            by None e = e
-            by (Some y) e =
-                let j = job-held_too H.grants.handles H.rings a.connections a.jobs i.links ticket y e in
-                none_some (at H.rings.jobs ticket) j.0 ticket_free j.1.0
+        note-free = no_job_noted H.grants.handles H.rings a.connections a.jobs i.links ticket ticket_free
 
         ticket-below : ticket < length a.jobs
         ticket-below = omega (arith, ticket_range H.rings.jobs c, below, job_notes_size H.grants.handles H.rings a.connections a.jobs i.links)
 
         work-same : host_work pinned.job ≡ noted_work (job-note ticket k.guest)
-        work-same = work_is _ _ _ _ _ _ _ _ both.0.connection (both.0.kind ∙ sym kind-same) both.0.id (sym both.1)
+        work-same = work_is _ _ _ _ _ _ _ _ _ _ _ _ _ _ both.0.connection (both.0.kind ∙ sym kind-same) both.0.id both.0.operation both.0.direction (sym both.1) (sym both.2)
 
         handed-good : accepting D x (order_for ticket (asked taken)) ≡ Ok tt
             → OutcomeGood D b a H m x (account-then ticket k.guest)
@@ -370,7 +372,7 @@ module _ {X : Type 0} (D : Rules X) (laws : Laws D) (b : Bay) (a : Account) (H :
                     (subst (λ js. Requests (set H.rings.jobs ticket (Some pinned.job)) (set a.connections c (Some (with_request taken note))) (set js ticket (Some (job-note ticket k.guest)))) (sym p.jobs)
                     (requests-handed H.grants.handles H.rings a.connections a.jobs c k note taken pinned.job (job-note ticket k.guest)
                     live there few-jobs refl refl (sym p.id) (sym p.operation) refl (sym p.direction) bytes i.links i.requests));
-                words = i.words;
+                words = subst (λ cs. Words H.events (set cs c (Some (with_request taken note)))) (sym p.connections) (words_kept H.events a.connections c note (with_request taken note) there refl i.words);
               };
               count = refl;
               bay = subst (λ js. BayHeld D (D.with_order x (order_for ticket (asked taken))) b (set js ticket (Some (job-note ticket k.guest)))) (sym p.jobs)
@@ -389,6 +391,7 @@ module _ {X : Type 0} (D : Rules X) (laws : Laws D) (b : Bay) (a : Account) (H :
                 | inr other ↦ no_response a a refl c' j n (ap (λ cs. at cs c') (sym p.connections) ∙ other.1) low high
               ];
               unbroken = λ e q. let z : ◌≡◌ {A = ℕ} 0 1 = cc in omega arith;
+              refused = λ e q. absurd (let z : ◌≡◌ {A = ℕ} 0 1 = cc in omega arith);
             }
 
         -- either way

@@ -1,7 +1,7 @@
 -- The calls that touch one table: take, give, load, store, entry, end, map, unmap, send, next.
 use Rattle.std.proofs.Common.{◌≡◌, ℕ, ◌+◌, ◌-◌, ◌*◌, ◌<◌, ◌≤◌, Bool, true, false, cond, not, ◌||◌, eqb, ltb, ◌⊎◌, List, [], length, get_or, set, is_some, Some, None, Ok, Err, Option, Result, sym, refl, ap, ◌∙◌, subst, inl, inr, arith}
 use Rattle.std.proofs.lemmas.List.{get_or-set_same, get_or-set_other, get_or_past}
-use Rattle.std.proofs.lemmas.Bool.{cases_eq, cases_lt, not-false, ltb-true, ltb-false, or_parts, or_cases, both_ways}
+use Rattle.std.proofs.lemmas.Bool.{eqb-false, cases_eq, cases_lt, not-false, ltb-true, ltb-false, or_parts, or_cases, both_ways}
 use Rattle.rules.specs.Tables.{at}
 use Rattle.rules.specs.Refusal.{refuse_first, after_ok, if_some}
 use Rattle.rules.proofs.Refusals.{none-held}
@@ -24,17 +24,18 @@ use Rattle.connection.specs.Tables.{connection_at}
 use Rattle.connection.specs.declared.kinds.Bay.TheVariants.{BlockBay, NetBay}
 use Rattle.connection.specs.declared.tables.Connection.{Connection}
 use Rattle.answer.specs.declared.fault.HostFault.TheVariants.{InFrame, InGrant, InEvent}
-use Rattle.answer.specs.declared.reply.Answer.TheVariants.{Done, Length, Handle, Port}
+use Rattle.answer.specs.declared.reply.Answer.TheVariants.{Done, Length, Handle, Port, Connected}
 use Rattle.backend.specs.declared.tables.Tables.{Tables}
 use Rattle.law.specs.World.{World, with_frames, with_grants, with_events, with_host, with_memory}
 use Rattle.law.specs.Call.{Take, Give, Load, Store, Entry, End, Map, Unmap, Send, Next}
 use Rattle.law.specs.Step.{proceeds, told, passed_up, send_rules, guests_end, next_port}
 use Rattle.law.specs.Account.{Account, MappingNote, counted, accepted, noted, noted_owner, noted_entry, mapping_noted, mapping_ended}
-use Rattle.law.specs.Keeps.{Writes}
+use Rattle.law.specs.Keeps.{Writes, LiveEnd}
 use Rattle.law.specs.Law.{Picks}
 use Rattle.law.proofs.Inv.{Inv, Words, Links, BooksOf, Requests, BayHeld}
 use Rattle.law.proofs.Books.{books_taken, books_given, books_entry, books_ended, books_pinned, books_unpinned, unmap_accepted, pinned-owned, owns_parts, writes_from}
-use Rattle.law.proofs.Links.{links_elsewhere}
+use Rattle.law.proofs.Links.{links_elsewhere, connection-noted}
+use Rattle.law.proofs.Tickets.{taken_inside}
 use Rattle.law.proofs.Bytes.{zeroed-size, zeroed-others, placed-size, stored_others, page_there}
 use Rattle.law.proofs.Marks.{marked_words, dropped_words, next_pending}
 use Rattle.law.proofs.Good.{Good, Unbroken, after, good_same, good_by, good_quiet, no_response}
@@ -53,8 +54,8 @@ in_grant e x q = let z : ◌≡◌ {A = ℕ} 0 1 = cc in omega arith
 pub in_event : (e : EventFault) → Unbroken (InEvent e)
 in_event e x q = let z : ◌≡◌ {A = ℕ} 0 1 = cc in omega arith
 
-no_port : (p : ℕ) → Done ≡ Port p → ⊥
-no_port p e = let z : ◌≡◌ {A = ℕ} 0 1 = cc in omega arith
+no_port : (p : ℕ) → (Done ≡ Port p → ⊥) × (Done ≡ Connected p → ⊥)
+no_port p = (λ e. let z : ◌≡◌ {A = ℕ} 0 1 = cc in omega arith, λ e. let z : ◌≡◌ {A = ℕ} 0 1 = cc in omega arith)
 
 -- a frame that the domain d has just been made the owner of, and one that keeps its owner
 owner-set : (os : List (Option ℕ)) (f : ℕ) (o : Option ℕ) (g : ℕ) → (g ≡ f → ⊥) → at (set os f o) g ≡ at os g
@@ -120,6 +121,8 @@ module _ {M N : Type 0} (R : Rules M) (S : Rules N) (pick : ℕ → ℕ) (pk : P
         response = λ k j n q e low high at-index. no_response a (noted_owner f (Some d) a) refl k j n e low high;
         unbroken = λ x e. let z : ◌≡◌ {A = ℕ} 0 1 = cc in omega arith;
         pending = λ d' p e z. absurd (let z : ◌≡◌ {A = ℕ} 0 1 = cc in omega arith);
+        unmarked = λ d' k' r' n e z. absurd (let y : ◌≡◌ {A = ℕ} 0 1 = cc in omega arith);
+        refused = λ e z. absurd (let y : ◌≡◌ {A = ℕ} 0 1 = cc in omega arith);
       })
       (λ e q. in_frame e)
 
@@ -149,6 +152,8 @@ module _ {M N : Type 0} (R : Rules M) (S : Rules N) (pick : ℕ → ℕ) (pk : P
         response = λ k j n q e low high at-index. no_response a (noted_owner f None a) refl k j n e low high;
         unbroken = λ x e. let z : ◌≡◌ {A = ℕ} 0 1 = cc in omega arith;
         pending = λ d' p e z. absurd (let z : ◌≡◌ {A = ℕ} 0 1 = cc in omega arith);
+        unmarked = λ d' k' r' n e z. absurd (let y : ◌≡◌ {A = ℕ} 0 1 = cc in omega arith);
+        refused = λ e z. absurd (let y : ◌≡◌ {A = ℕ} 0 1 = cc in omega arith);
       })
       (λ e q. in_frame e)
 
@@ -159,8 +164,8 @@ module _ {M N : Type 0} (R : Rules M) (S : Rules N) (pick : ℕ → ℕ) (pk : P
     where
       loaded : (r : Result Unit FrameFault) → Good R S pick a (after R S pick a w (Load d f o n) (record { result = passed_up InFrame (λ _. Length n) r; filled = after_ok r [] (λ _. bytes_at (4096 * f + o) n w.memory) })) w (Load d f o n)
           (record { answer = record { result = passed_up InFrame (λ _. Length n) r; filled = after_ok r [] (λ _. bytes_at (4096 * f + o) n w.memory) }; world = w })
-      loaded (Ok tt) = good_same R S pick a w (Load d f o n) _ i (λ x e. let z : ◌≡◌ {A = ℕ} 0 1 = cc in omega arith) (λ d' p e z. absurd (let z : ◌≡◌ {A = ℕ} 0 1 = cc in omega arith))
-      loaded (Err e) = good_same R S pick a w (Load d f o n) _ i (λ x e. let z : ◌≡◌ {A = ℕ} 0 1 = cc in omega arith) (λ d' p e z. absurd (let z : ◌≡◌ {A = ℕ} 0 1 = cc in omega arith))
+      loaded (Ok tt) = good_same R S pick a w (Load d f o n) _ i (λ x e. let z : ◌≡◌ {A = ℕ} 0 1 = cc in omega arith) (λ d' p e z. absurd (let z : ◌≡◌ {A = ℕ} 0 1 = cc in omega arith)) (λ n e. let z : ◌≡◌ {A = ℕ} 0 1 = cc in omega arith)
+      loaded (Err e) = good_same R S pick a w (Load d f o n) _ i (λ x e. let z : ◌≡◌ {A = ℕ} 0 1 = cc in omega arith) (λ d' p e z. absurd (let z : ◌≡◌ {A = ℕ} 0 1 = cc in omega arith)) (λ n e. let z : ◌≡◌ {A = ℕ} 0 1 = cc in omega arith)
 
   pub good_store : (d f o : ℕ) (bs : List ℕ) → Good R S pick a (after R S pick a w (Store d f o bs) (proceeds R S pick w (Store d f o bs)).answer) w (Store d f o bs) (proceeds R S pick w (Store d f o bs))
   unfolding proceeds accepted
@@ -195,6 +200,8 @@ module _ {M N : Type 0} (R : Rules M) (S : Rules N) (pick : ℕ → ℕ) (pk : P
         response = λ k j n q e low high at-index. no_response a a refl k j n e low high;
         unbroken = λ x e. let z : ◌≡◌ {A = ℕ} 0 1 = cc in omega arith;
         pending = λ d' p e z. absurd (let z : ◌≡◌ {A = ℕ} 0 1 = cc in omega arith);
+        unmarked = λ d' k' r' n e z. absurd (let y : ◌≡◌ {A = ℕ} 0 1 = cc in omega arith);
+        refused = λ e z. absurd (let y : ◌≡◌ {A = ℕ} 0 1 = cc in omega arith);
       })
       (λ e q. in_frame e)
 
@@ -209,7 +216,7 @@ module _ {M N : Type 0} (R : Rules M) (S : Rules N) (pick : ℕ → ℕ) (pk : P
     requests = subst (λ cs. Requests H.rings.jobs cs b.jobs) (sym k) (subst (λ js. Requests H.rings.jobs a.connections js) (sym j) i.requests);
     bay0 = subst (λ js. BayHeld R w.bay0 BlockBay js) (sym j) i.bay0;
     bay1 = subst (λ js. BayHeld S w.bay1 NetBay js) (sym j) i.bay1;
-    words = i.words;
+    words = subst (Words H.events) (sym k) i.words;
   }
 
   pub good_entry : (d n fl to f : ℕ) → Good R S pick a (after R S pick a w (Entry d n fl to f) (proceeds R S pick w (Entry d n fl to f)).answer) w (Entry d n fl to f) (proceeds R S pick w (Entry d n fl to f))
@@ -246,7 +253,7 @@ module _ {M N : Type 0} (R : Rules M) (S : Rules N) (pick : ℕ → ℕ) (pk : P
       (links_elsewhere H.grants.handles (set H.grants.handles (key d g.handle) (Some g.mapping)) H.rings a.connections a.jobs
       (λ h l. get_or-set_other H.grants.handles (key d g.handle) (key 0 h) (Some g.mapping) None (apart d g.handle h guest l)) i.links)
       refl refl)
-      refl refl refl refl (λ p e. let z : ◌≡◌ {A = ℕ} 0 1 = cc in omega arith))
+      refl refl refl refl (λ p. (λ e. let z : ◌≡◌ {A = ℕ} 0 1 = cc in omega arith, λ e. let z : ◌≡◌ {A = ℕ} 0 1 = cc in omega arith)))
       (λ e q. in_grant e)
 
   pub good_unmap : (d h : ℕ) → 0 < d → d < 8 → Good R S pick a (after R S pick a w (Unmap d h) (proceeds R S pick w (Unmap d h)).answer) w (Unmap d h) (proceeds R S pick w (Unmap d h))
@@ -268,24 +275,30 @@ module _ {M N : Type 0} (R : Rules M) (S : Rules N) (pick : ℕ → ℕ) (pk : P
       (λ e q. in_grant e)
 
   -- other ports are marked, or marks dropped
-  remarked : (E : Events) → Words E → Inv R S a (with_host (with_events E H) w)
+  remarked : (E : Events) → Words E a.connections → Inv R S a (with_host (with_events E H) w)
   remarked E words = record { few = i.few; memory = i.memory; books = i.books; links = i.links; requests = i.requests; bay0 = i.bay0; bay1 = i.bay1; words = words }
 
-  -- the port of a live connection is one of 1 to 6
-  port-below : (d p : ℕ) → refuse_first {T = Unit} (send_rules H d p) (Ok tt) ≡ Ok tt → p < 32
-  port-below d p q =
+  -- a port that may be sent on is one of 1 to 6, and domain 0's end of a live connection
+  sent-on : (o : Option Connection) (d : ℕ) → not (guests_end d o) ≡ false → (k : Connection) × (o ≡ Some k)
+  sent-on None d e = absurd (both_ways (not (guests_end d None)) e refl)
+  sent-on (Some k) d e = (k, refl)
+
+  sent-end : (d p : ℕ) → refuse_first {T = Unit} (send_rules H d p) (Ok tt) ≡ Ok tt → (p < 32) × LiveEnd a.connections 0 p
+  sent-end d p q =
       let none = or_parts (eqb p 0) (not (guests_end d (connection_at H.rings (p - 1)))) (none-held (send_rules H d p) (Ok tt) tt q).0.0 in
-      let size = i.links.connections-size in
-      elim (cases_lt (p - 1) 6) [
-        | inl l ↦ omega arith
-        | inr l ↦ absurd (both_ways _ none.1 (ap (λ (o : Option Connection). not (guests_end d o)) (get_or_past H.rings.connections (p - 1) None (omega arith))))
-      ]
+      let k = sent-on (connection_at H.rings (p - 1)) d none.1 in
+      let n = connection-noted H.grants.handles H.rings a.connections a.jobs i.links (p - 1) k.0 k.1 in
+      let some : 0 < p = elim (cases_lt 0 p) [ inl l ↦ l | inr l ↦ absurd (eqb-false p 0 none.0 (omega arith)) ] in
+      (
+        omega (arith, taken_inside H.rings.connections (p - 1) k.0 k.1, i.links.connections-size),
+        record { number = p - 1; note = n.0; live = n.1.0; port = omega arith; whose = inl refl },
+      )
 
   pub good_send : (d p : ℕ) → Good R S pick a (after R S pick a w (Send d p) (proceeds R S pick w (Send d p)).answer) w (Send d p) (proceeds R S pick w (Send d p))
   unfolding proceeds accepted
   good_send d p = good_by R S pick {T = Unit} {E = EventFault} a w (Send d p) InEvent (refuse_first (send_rules H d p) (Ok tt)) (λ _. Done)
       (λ _. with_host (with_events (marked 0 p H.events) H) w) i
-      (λ t q. good_quiet R S pick a a w _ (Send d p) Done (remarked (marked 0 p H.events) (marked_words H.events 0 p (port-below d p q) i.words)) refl refl refl refl no_port)
+      (λ t q. good_quiet R S pick a a w _ (Send d p) Done (let e = sent-end d p q in remarked (marked 0 p H.events) (marked_words H.events a.connections 0 p e.0 e.1 i.words)) refl refl refl refl no_port)
       (λ e q. in_event e)
 
   pub good_next : (d : ℕ) → Good R S pick a (after R S pick a w (Next d) (proceeds R S pick w (Next d)).answer) w (Next d) (proceeds R S pick w (Next d))
@@ -296,7 +309,7 @@ module _ {M N : Type 0} (R : Rules M) (S : Rules N) (pick : ℕ → ℕ) (pk : P
       picked b = record {
         inv = (elim b as (λ v. Inv R S a (cond v w (with_host (with_events (dropped d (next_port pick (word H.events d)) H.events) H) w))) [
           | true ↦ i
-          | false ↦ remarked (dropped d (next_port pick (word H.events d)) H.events) (dropped_words H.events d (next_port pick (word H.events d)) i.words)
+          | false ↦ remarked (dropped d (next_port pick (word H.events d)) H.events) (dropped_words H.events a.connections d (next_port pick (word H.events d)) i.words)
         ]);
         count = (elim b as (λ v. (cond v w (with_host (with_events (dropped d (next_port pick (word H.events d)) H.events) H) w)).host.frames.count ≡ H.frames.count) [ true ↦ refl | false ↦ refl ]);
         owner = λ f h. refl;
@@ -308,5 +321,7 @@ module _ {M N : Type 0} (R : Rules M) (S : Rules N) (pick : ℕ → ℕ) (pk : P
             let port : next_port pick (word H.events d) ≡ p = port_same (next_port pick (word H.events d)) p z in
             subst (λ x. ((word H.events x ≡ 0) × (p ≡ 0)) ⊎ (bit (word H.events x) p ≡ 1)) same
             (subst (λ y. ((word H.events d ≡ 0) × (y ≡ 0)) ⊎ (bit (word H.events d) y ≡ 1)) port
-            (next_pending pick pk (word H.events d) (i.words d)));
+            (next_pending pick pk (word H.events d) (i.words.small d)));
+        unmarked = λ d' k r n e z. absurd (let y : ◌≡◌ {A = ℕ} 0 1 = cc in omega arith);
+        refused = λ e z. absurd (let y : ◌≡◌ {A = ℕ} 0 1 = cc in omega arith);
       }

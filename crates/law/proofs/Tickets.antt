@@ -61,6 +61,12 @@ pub same_places : {X Y Z : Type 0} (f : X → Z) (g : Y → Z) (xs : List (Optio
     → (k : ℕ) → option_map f (at xs k) ≡ option_map g (at ys k)
 same_places {Z = Z} f g xs ys e k = sym (at-mapped f xs k) ∙ ap (λ (zs : List (Option Z)). at zs k) e ∙ at-mapped g ys k
 
+-- and if one is free, so is the other
+pub free_too : {X Y Z : Type 0} (f : X → Z) (g : Y → Z) (o : Option X) (p : Option Y) → option_map f o ≡ option_map g p → o ≡ None → p ≡ None
+free_too f g None None e q = refl
+free_too f g None (Some y) e q = absurd (let z : ◌≡◌ {A = ℕ} 0 1 = cc in omega arith)
+free_too f g (Some x) p e q = none_some (Some x) x q refl
+
 -- two places that show the same are both taken or both free
 pub same_some_ness : {X Y Z : Type 0} (f : X → Z) (g : Y → Z) (o : Option X) (p : Option Y) → option_map f o ≡ option_map g p → is_some o ≡ is_some p
 same_some_ness f g None None e = refl

@@ -1,6 +1,6 @@
 -- A bookkeeper beside the host. It is given each call, its answer, and the memory and the devices as the call found
 -- them; it never sees the host.
-use Rattle.std.specs.Prelude.{ℕ, ◌+◌, List, [], ◌∷◌, ◌++◌, length, get_or, replicate, Some, None, Option, slice_index, slice_index_or, slice_set}
+use Rattle.std.specs.Prelude.{ℕ, ◌+◌, ◌*◌, List, [], ◌∷◌, ◌++◌, length, get_or, replicate, Some, None, Option, slice_index, slice_index_or, slice_set}
 use Rattle.std.specs.Option.{unwrap_or}
 use Rattle.abi.specs.declared.entry.GrantEntry.{GrantEntry}
 use Rattle.abi.specs.declared.page.Kind.{Kind}
@@ -9,6 +9,7 @@ use Rattle.rules.specs.Refusal.{after_ok, if_some}
 use Rattle.rules.specs.Tables.{at}
 use Rattle.device.specs.Meaning.{Rules, ready_ticket}
 use Rattle.device.specs.declared.orders.Order.{Order}
+use Rattle.device.specs.declared.transfer.Part.{Part}
 use Rattle.grant.specs.Tables.{blank, place, key, lowest}
 use Rattle.grant.specs.Entries.{with_flags}
 use Rattle.grant.specs.Map.{mode_of}
@@ -17,7 +18,7 @@ use Rattle.grant.specs.declared.tables.Mode.{Mode}
 use Rattle.grant.specs.declared.tables.Mode.TheVariants.{Write}
 use Rattle.ringpage.specs.declared.slot.Request.{Request}
 use Rattle.ring.specs.Total.{request_or_zeros}
-use Rattle.request.specs.Content.{asked, id_of, spans_of, direction_of}
+use Rattle.request.specs.Content.{asked, id_of, operation_of, spans_of, direction_of}
 use Rattle.request.specs.declared.content.Span.{Span}
 use Rattle.connection.specs.Tables.{kind_numbered, next_ticket}
 use Rattle.connection.specs.declared.kinds.Bay.{Bay}
@@ -43,14 +44,16 @@ pub record ConnectionNote : Type 0 where
   pub requests : List Request
   pub answered : List ℕ
 
--- a job: the number and the id of its request on its connection, domain 0's handles of its segments, and the order
--- that the device was handed
+-- a job: the number of its request on its connection, with its id and operation; of each segment domain 0's handle, and
+-- where it lies in memory; and the order that the device was handed
 pub record JobNote : Type 0 where
   pub connection : ℕ
   pub kind : Kind
   pub index : ℕ
   pub id : ℕ
+  pub operation : ℕ
   pub handles : List ℕ
+  pub parts : List Part
   pub order : Order
 
 pub record Account : Type 0 where
@@ -131,16 +134,23 @@ mappings_ended (h ∷ hs) a = mapping_ended 0 h (mappings_ended hs a)
 abbrev pub next_handle : Account → ℕ
 next_handle a = unwrap_or (lowest a.mappings 0) 0
 
--- domain 0 maps a guest's spans in turn: the account after it, and the handles, behind those that were there
+-- where a span of the frame f lies in memory
+abbrev pub part_of : ℕ → Span → Part
+part_of f s = record { start = 4096 * f + s.start; length = s.length }
+
+-- domain 0 maps a guest's spans in turn: the account after it, the handles, and where the spans lie, each behind those
+-- that were there
 pub record SpansNoted : Type 0 where
   pub account : Account
   pub handles : List ℕ
+  pub parts : List Part
 
-abbrev pub spans_noted : ℕ → Mode → List ℕ → Account → List Span → SpansNoted
-spans_noted guest mode hs a [] = record { account = a; handles = hs }
-spans_noted guest mode hs a (s ∷ ss) =
+abbrev pub spans_noted : ℕ → Mode → List ℕ → List Part → Account → List Span → SpansNoted
+spans_noted guest mode hs ps a [] = record { account = a; handles = hs; parts = ps }
+spans_noted guest mode hs ps a (s ∷ ss) =
     let h : ℕ = next_handle a in
-    spans_noted guest mode (hs ++ h ∷ []) (mapping_noted 0 h guest s.reference mode a) ss
+    let f : ℕ = (get_or a.entries (place guest s.reference) blank).frame in
+    spans_noted guest mode (hs ++ h ∷ []) (ps ++ part_of f s ∷ []) (mapping_noted 0 h guest s.reference mode a) ss
 
 -- the request whose number is the count so far, as the memory has it
 abbrev pub next_noted : ConnectionNote → List ℕ → Request
@@ -163,9 +173,18 @@ connect_noted c d kind reference a =
 -- a request was consumed and handed over: it is a job under the ticket that is serve's
 abbrev pub job_noted : ℕ → ConnectionNote → Request → Account → Account
 job_noted c n q a =
-    let s : SpansNoted = spans_noted n.guest (mode_of (mode_for (direction_of q))) [] a (spans_of q) in
+    let s : SpansNoted = spans_noted n.guest (mode_of (mode_for (direction_of q))) [] [] a (spans_of q) in
     let t : ℕ = next_ticket a.jobs c in
-    noted_job t (Some (record { connection = c; kind = n.kind; index = length n.requests; id = id_of q; handles = s.handles; order = order_for t (asked q) }))
+    noted_job t (Some (record {
+      connection = c;
+      kind = n.kind;
+      index = length n.requests;
+      id = id_of q;
+      operation = operation_of q;
+      handles = s.handles;
+      parts = s.parts;
+      order = order_for t (asked q);
+    }))
     (noted_connection c (Some (with_request q n)) s.account)
 
 -- a request was consumed and answered at once

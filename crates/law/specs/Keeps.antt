@@ -7,7 +7,9 @@ use Rattle.abi.specs.declared.page.Kind.{Kind}
 use Rattle.rules.specs.Refusal.{if_some}
 use Rattle.rules.specs.Tables.{at}
 use Rattle.device.specs.Meaning.{Rules}
+use Rattle.device.specs.declared.orders.Direction.{Direction}
 use Rattle.device.specs.declared.orders.Order.{Order}
+use Rattle.device.specs.declared.transfer.Part.{Part}
 use Rattle.device.specs.declared.fault.DeviceFault.{DeviceFault}
 use Rattle.frame.specs.Memory.{frame_bytes, bytes_at}
 use Rattle.grant.specs.Tables.{key, pins}
@@ -18,15 +20,16 @@ use Rattle.ringpage.specs.declared.slot.Request.{Request}
 use Rattle.ring.specs.Response.{response_bytes}
 use Rattle.ring.specs.declared.fault.RingFault.TheVariants.{OfDevice}
 use Rattle.request.specs.Content.{id_of, operation_of}
-use Rattle.connection.specs.Tables.{bay_of, same_bay, handles_of}
+use Rattle.connection.specs.Tables.{bay_of, same_bay, handles_of, parts_of}
 use Rattle.connection.specs.declared.kinds.Bay.{Bay}
 use Rattle.connection.specs.declared.kinds.Bay.TheVariants.{BlockBay, NetBay}
 use Rattle.connection.specs.declared.tables.Connection.{Connection}
 use Rattle.connection.specs.declared.tables.Job.{Job}
+use Rattle.answer.specs.declared.fault.HostFault.{HostFault}
 use Rattle.answer.specs.declared.fault.HostFault.TheVariants.{InRing}
-use Rattle.answer.specs.declared.reply.Answer.TheVariants.{Port}
+use Rattle.answer.specs.declared.reply.Answer.TheVariants.{Port, Connected}
 use Rattle.law.specs.World.{World, with_memory}
-use Rattle.law.specs.Call.{Call, Next, domain, Reply}
+use Rattle.law.specs.Call.{Call, Next, Connect, domain, Reply}
 use Rattle.law.specs.Step.{step}
 use Rattle.law.specs.Account.{Account, MappingNote, ConnectionNote, JobNote}
 
@@ -94,6 +97,14 @@ abbrev pub handed : Bay → Option JobNote → List Order
 handed b None = []
 handed b (Some j) = cond (same_bay (bay_of j.kind) b) (j.order ∷ []) []
 
+-- the port p is the domain d's end of a live connection: port c + 1 of its guest, and of domain 0
+pub record LiveEnd (conns : List (Option ConnectionNote)) (d p : ℕ) : Type 0 where
+  pub number : ℕ
+  pub note : ConnectionNote
+  pub live : at conns number ≡ Some note
+  pub port : p ≡ number + 1
+  pub whose : (d ≡ 0) ⊎ (d ≡ note.guest)
+
 -- what the host and the account both know of a live connection, and of a job
 pub record Pairing : Type 0 where
   pub kind : Kind
@@ -105,7 +116,10 @@ pub record Work : Type 0 where
   pub connection : ℕ
   pub kind : Kind
   pub id : ℕ
+  pub operation : ℕ
+  pub direction : Direction
   pub handles : List ℕ
+  pub parts : List Part
 
 abbrev pub host_pairing : Connection → Pairing
 host_pairing k = record { kind = k.kind; guest = k.guest; page = k.page; handle = k.handle }
@@ -114,10 +128,26 @@ abbrev pub noted_pairing : ConnectionNote → Pairing
 noted_pairing n = record { kind = n.kind; guest = n.guest; page = n.page; handle = n.handle }
 
 abbrev pub host_work : Job → Work
-host_work j = record { connection = j.connection; kind = j.kind; id = j.id; handles = handles_of j }
+host_work j = record {
+  connection = j.connection;
+  kind = j.kind;
+  id = j.id;
+  operation = j.operation;
+  direction = j.direction;
+  handles = handles_of j;
+  parts = parts_of j;
+}
 
 abbrev pub noted_work : JobNote → Work
-noted_work n = record { connection = n.connection; kind = n.kind; id = n.id; handles = n.handles }
+noted_work n = record {
+  connection = n.connection;
+  kind = n.kind;
+  id = n.id;
+  operation = n.operation;
+  direction = n.order.direction;
+  handles = n.handles;
+  parts = n.parts;
+}
 
 -- the private indices of a live connection are its counts, modulo 2 ^ 32
 pub record Counted (k : Connection) (n : ConnectionNote) : Type 0 where
@@ -145,6 +175,8 @@ pub record Keeps {M N : Type 0} (R : Rules M) (S : Rules N) (pick : ℕ → ℕ)
       → ((step R S pick (with_memory m s.found) s.call).answer ≡ s.answered)
       × ((step R S pick (with_memory m s.found) s.call).world.bay0 ≡ s.left.bay0)
       × ((step R S pick (with_memory m s.found) s.call).world.bay1 ≡ s.left.bay1)
+  -- a refusal alters nothing
+  pub refusal_alters_nothing : (f : HostFault) → s.answered.result ≡ Err f → s.left ≡ s.found
   -- on each live connection, requests consumed = responses written + jobs in hand
   pub each_request_spent : (c : ℕ) (n : ConnectionNote) → at b.connections c ≡ Some n
       → length n.requests ≡ length n.answered + count_by (on_connection c) b.jobs
@@ -175,6 +207,10 @@ pub record Keeps {M N : Type 0} (R : Rules M) (S : Rules N) (pick : ℕ → ℕ)
   -- private req_cons and rsp_prod are the counts of requests consumed and responses written, modulo 2 ^ 32
   pub indices_agree : (c : ℕ) (k : Connection) (n : ConnectionNote) → at s.left.host.rings.connections c ≡ Some k → at b.connections c ≡ Some n
       → Counted k n
+  -- a pending port is its domain's end of a live connection, and at connect neither end is pending
+  pub pending_is_live : (d p : ℕ) → bit (word s.left.host.events d) p ≡ 1 → LiveEnd b.connections d p
+  pub connect_unmarked : (d kind reference c : ℕ) → s.call ≡ Connect d kind reference → s.answered.result ≡ Ok (Connected c)
+      → (e : ℕ) → bit (word s.left.host.events e) (c + 1) ≡ 0
   -- next answers a port that was pending, or 0 where none was
   pub next_was_pending : (d p : ℕ) → s.call ≡ Next d → s.answered.result ≡ Ok (Port p)
       → ((word s.found.host.events d ≡ 0) × (p ≡ 0)) ⊎ (bit (word s.found.host.events d) p ≡ 1)
