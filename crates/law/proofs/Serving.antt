@@ -49,7 +49,7 @@ use Rattle.law.proofs.Inv.{Links, Requests, BayHeld, Words, SegmentMapped, no_pa
 use Rattle.law.proofs.Books.{frame-owned, owns_parts}
 use Rattle.law.proofs.Links.{connection-noted, no_job_noted, next_ticket_same, links_answered, links_handed, job_notes_size}
 use Rattle.law.proofs.Requested.{requests-answered, requests-handed}
-use Rattle.law.proofs.Tickets.{at_set, set_taken, taken_inside, same_some, none_some, free_ticket, ticket_range}
+use Rattle.law.proofs.Tickets.{at_set, set_taken, taken_inside, same_some, free_ticket, ticket_range}
 use Rattle.law.proofs.Segments.{AllPinned, segments_pinned}
 use Rattle.law.proofs.Undoing.{Undone, segments_refused, segments_undone}
 use Rattle.law.proofs.Spans.{no_span, checked-spans}

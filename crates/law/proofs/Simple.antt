@@ -1,6 +1,6 @@
 -- The calls that touch one table: take, give, load, store, entry, end, map, unmap, send, next.
 use Rattle.std.proofs.Common.{◌≡◌, ℕ, ◌+◌, ◌-◌, ◌*◌, ◌<◌, ◌≤◌, Bool, true, false, cond, not, ◌||◌, eqb, ltb, ◌⊎◌, List, [], length, get_or, set, is_some, Some, None, Ok, Err, Option, Result, sym, refl, ap, ◌∙◌, subst, inl, inr, arith}
-use Rattle.std.proofs.lemmas.List.{get_or-set_same, get_or-set_other, get_or_past}
+use Rattle.std.proofs.lemmas.List.{get_or-set_same, get_or-set_other}
 use Rattle.std.proofs.lemmas.Bool.{eqb-false, cases_eq, cases_lt, not-false, ltb-true, ltb-false, or_parts, or_cases, both_ways}
 use Rattle.rules.specs.Tables.{at}
 use Rattle.rules.specs.Refusal.{refuse_first, after_ok, if_some}

@@ -8,12 +8,11 @@ use Rattle.device.specs.declared.orders.Direction.TheVariants.{Inward}
 use Rattle.disk.specs.Fit.{sector}
 use Rattle.disk.specs.State.{State, disk_rules, new_disk}
 use Rattle.grant.specs.Tables.{place, entry_at}
-use Rattle.ringpage.specs.declared.slot.Request.{Request}
-use Rattle.ringpage.specs.declared.slot.Request.TheVariants.{OfSend}
 use Rattle.ring.specs.Fault.{fault_number, status_of}
 use Rattle.ring.specs.Producer.{ahead}
 use Rattle.ring.specs.declared.fault.RingFault.{RingFault}
 use Rattle.request.specs.Check.{field_verdict}
+use Rattle.request.specs.Examples.{sent_at}
 use Rattle.request.specs.declared.fields.Miss.{Miss}
 use Rattle.answer.specs.Parts.{answer_parts}
 use Rattle.law.specs.World.{World, new_host}
@@ -72,10 +71,6 @@ status (Err f) = status_of f.fault
 abbrev pub number_of : Result ℕ RingFault → ℤ
 number_of (Ok n) = pos n
 number_of (Err e) = fault_number e
-
--- a send of 1,514 bytes at this offset
-abbrev pub sent_at : ℕ → Request
-sent_at offset = OfSend (record { reference = 0; offset = offset; flags = 0; id = 0; size = 1514 })
 
 pub record Worked : Type 0 where
   -- flags 1, domid 2, frame 3 is 01 00 02 00 03 00 00 00
