@@ -102,13 +102,18 @@ impl Rings {
     pub fn add_job(&mut self, ticket: u8, job: &Job)
         ensures { self.new ≡ with_job ticket (Some job.now) self.old }
     {
-        put(&mut self.jobs, ticket as usize, Some(*job));
+        // Not by `put`: a job is large, and is copied once, into its place.
+        if (ticket as usize) < self.jobs.len() {
+            self.jobs[ticket as usize] = Some(*job);
+        }
     }
 
     /// No job is in hand under this ticket any more.
     pub fn end_job(&mut self, ticket: u8)
         ensures { self.new ≡ with_job ticket None self.old }
     {
-        put(&mut self.jobs, ticket as usize, None);
+        if (ticket as usize) < self.jobs.len() {
+            self.jobs[ticket as usize] = None;
+        }
     }
 }
