@@ -3,7 +3,6 @@ use Rattle.std.proofs.Common.{◌≡◌, ℕ, ◌^◌, ◌<◌, Bool, true, fals
 use Rattle.std.proofs.lemmas.List.{length-set, get_or-set_same, get_or-set_other}
 use Rattle.std.proofs.lemmas.List.Sums.{sum_by-set}
 use Rattle.std.proofs.lemmas.Bool.{cases_eq, lt-ltb}
-use Rattle.rules.specs.Refusal.{if_some}
 use Rattle.rules.specs.Tables.{at}
 use Rattle.frame.specs.Owners.{owns}
 use Rattle.frame.specs.declared.owners.Frames.{Frames}
@@ -16,6 +15,7 @@ use Rattle.grant_law.proofs.Counting.{counted_bound, counted_use, counted-unpin,
 use Rattle.grant_law.proofs.Weights.{removed-weight, removed-told}
 use Rattle.grant_law.proofs.Verdicts.{in_use_is}
 use Rattle.grant_law.proofs.Pinning.{and_true}
+use Rattle.grant_law.proofs.Places.{stood_before, by_some}
 
 -- the mapping p is in use under the handle h of the domain d
 module _ (F : Frames) (G : Grants) (d h : ℕ) (p : Mapping) (s : Sound F G)
@@ -36,7 +36,7 @@ module _ (F : Frames) (G : Grants) (d h : ℕ) (p : Mapping) (s : Sound F G)
   abbrev after : Grants
   after = freed (key d h) (unused (place_of p) p.mode G)
 
-  unpin-is : unpin d h p G ≡ after
+  pub unpin-is : unpin d h p G ≡ after
   unpin-is = ap (λ (b : Bool). freed (key d h) (cond b (unused (place_of p) p.mode G) G)) (lt-ltb (place_of p) 256 place-below)
 
   used : 0 < count_of p.mode (record_at G (place_of p))
@@ -56,15 +56,6 @@ module _ (F : Frames) (G : Grants) (d h : ℕ) (p : Mapping) (s : Sound F G)
             let told = removed-told p.mode r in
             rw (e, get_or-set_same) ((λ _. use_pins p.mode r used), told.0, told.1)
         | inr n ↦ rw get_or-set_other ((λ v. v), refl, refl)
-      ]
-
-  -- every handle in use then was in use before
-  handle-after : (k : ℕ) (q : Mapping) → at after.handles k ≡ Some q → at G.handles k ≡ Some q
-  handle-after k q e =
-      let inside = key-inside in
-      elim (cases_eq k (key d h)) [
-        | inl i ↦ absurd (let g : None ≡ Some q = sym (get_or-set_same G.handles (key d h) None None inside) ∙ rw i at e in let z : ◌≡◌ {A = ℕ} 0 1 = cc in omega arith)
-        | inr n ↦ rw get_or-set_other at e
       ]
 
   after-placed : (k : ℕ) → placed (at after.handles k) ≡ true
@@ -90,7 +81,7 @@ module _ (F : Frames) (G : Grants) (d h : ℕ) (p : Mapping) (s : Sound F G)
         frame,
       )
 
-  after-sound : Sound F after
+  pub after-sound : Sound F after
   after-sound = record {
     owners_size = s.owners_size;
     entries_size = length-set G.entries (place_of p) _ ∙ s.entries_size;
@@ -98,7 +89,7 @@ module _ (F : Frames) (G : Grants) (d h : ℕ) (p : Mapping) (s : Sound F G)
     handles_size = length-set G.handles (key d h) _ ∙ s.handles_size;
     all_placed = after-placed;
     counts = counted-unpin G.records G.handles s.handles_size s.counts (key d h) p key-inside here s.records_size place-below;
-    told = λ d' h' q b l e. (let was = s.told d' h' q b l (handle-after (key d' h') q e) in let r = record-after (place_of q) in (r.1 ∙ was.0, r.2 ∙ was.1));
+    told = λ d' h' q b l e. (let was = s.told d' h' q b l (stood_before G.handles (key d h) (key d' h') q e) in let r = record-after (place_of q) in (r.1 ∙ was.0, r.2 ∙ was.1));
     owned = λ o n b l is-pinned. (let r = record-after (place o n) in subst (λ v. owns F o v ≡ true) (sym r.1) (s.owned o n b l (r.0 is-pinned)));
     frame_pins = after-pins;
   }
@@ -106,12 +97,8 @@ module _ (F : Frames) (G : Grants) (d h : ℕ) (p : Mapping) (s : Sound F G)
   pub unpinned_sound : Sound F (unpin d h p G)
   unpinned_sound = subst (Sound F) (sym unpin-is) after-sound
 
-by_use : (P : Grants → Type 0) (o : Option Mapping) (G : Grants) (f : Mapping → Grants) → P G → ((p : Mapping) → o ≡ Some p → P (f p)) → P (if_some o G f)
-by_use P (Some p) G f c k = k p refl
-by_use P None G f c k = c
-
 pub released_sound : (F : Frames) (G : Grants) (d h : ℕ) → d < 8 → Sound F G → Sound F (released d h G)
 released_sound F G d h b s =
-    by_use (Sound F) (in_use G d h) G (λ p. unpin d h p G) s λ p q.
+    by_some (Sound F) (in_use G d h) G (λ p. unpin d h p G) (λ _. s) λ p q.
     let i = in_use_is G d h p q in
     unpinned_sound F G d h p s b i.0 i.1

@@ -23,9 +23,10 @@ lowest_is_free hs d h b n e =
     let m : h < 64 = omega (arith, i.2, l, q) in
     (m, sym (get_or-between hs (64 * d) (64 * d + 64) h None (omega arith)) ∙ rw q at i.3)
 
-some_value : (o : Option ℕ) (h : ℕ) → is_some o ≡ true → unwrap_or o 0 ≡ h → o ≡ Some h
-some_value (Some x) h p q = ap Some q
-some_value None h p q = absurd (both_ways false refl p)
+-- what is there, by its value
+pub some_value : {X : Type 0} (o : Option X) (d x : X) → is_some o ≡ true → unwrap_or o d ≡ x → o ≡ Some x
+some_value (Some y) d x p q = ap Some q
+some_value None d x p q = absurd (both_ways false refl p)
 
 pub record Accepted (F : Frames) (G : Grants) (d owner reference mode : ℕ) (g : Grant) : Type 0 where
   pub domain : owner < 8
@@ -50,7 +51,7 @@ accepted F G d owner reference mode g q =
     record {
       domain = omega arith;
       within = omega arith;
-      free = some_value l g.handle (not-false (is_some l) n.1.1.0) (ap (λ (x : Grant). x.handle) same-grant);
+      free = some_value l 0 g.handle (not-false (is_some l) n.1.1.0) (ap (λ (x : Grant). x.handle) same-grant);
       granted = not-false (names (entry_at G (place owner reference)) d) n.1.1.1.1.0;
       owned = not-false (owns F owner (entry_at G (place owner reference)).frame) n.1.1.1.1.1.0;
       same = λ p. (grind (arith, nat_tests), grind (arith, nat_tests));

@@ -1,8 +1,8 @@
 -- complete: nothing that the device is asked is refused, and the outcome is good.
-use Rattle.std.proofs.Common.{◌≡◌, ℕ, suc, ◌+◌, ◌*◌, ◌^◌, ◌<◌, ◌≤◌, Bool, true, false, cond, List, [], ◌∷◌, length, get_or, set, ℤ, Some, None, Ok, Err, sum_by, Option, Result, sym, refl, ap, ◌∙◌, subst, inl, inr, arith}
+use Rattle.std.proofs.Common.{◌≡◌, ℕ, suc, ◌+◌, ◌*◌, ◌^◌, ◌<◌, ◌≤◌, true, eqb, List, [], ◌∷◌, length, get_or, set, ℤ, Some, None, Ok, Err, sum_by, Option, Result, sym, refl, ap, ◌∙◌, subst, inl, inr, arith}
 use Rattle.std.proofs.lemmas.List.{get_or-set_same, get_or-set_other, get_or-take, length-take-le}
 use Rattle.std.proofs.lemmas.List.Sums.{sum_by-cons}
-use Rattle.std.proofs.lemmas.Bool.{cases_eq, cond-false}
+use Rattle.std.proofs.lemmas.Bool.{cases_eq, eqb-true, cond-false}
 use Rattle.abi.specs.declared.page.Kind.{Kind}
 use Rattle.rules.specs.Tables.{at}
 use Rattle.rules.specs.Refusal.{after_ok, if_some}
@@ -17,6 +17,7 @@ use Rattle.frame.specs.Memory.{frame_bytes}
 use Rattle.grant.specs.Tables.{key}
 use Rattle.grant.specs.Map.{mode_of}
 use Rattle.grant.specs.declared.tables.Mapping.{Mapping}
+use Rattle.grant_law.proofs.Places.{by_some}
 use Rattle.request.specs.Content.{id_of, operation_of}
 use Rattle.ring.specs.declared.fault.RingFault.TheVariants.{NoJob}
 use Rattle.connection.specs.Tables.{bay_of, same_bay, in_bay, job_at, connection_at, handles_of, parts_of, with_job}
@@ -33,17 +34,17 @@ use Rattle.law.specs.Complete.{closed, finished, completed_job, completed}
 use Rattle.law.specs.Account.{Account, ConnectionNote, JobNote, complete_noted, job_answered, mappings_ended, noted_connection, noted_job, with_response}
 use Rattle.law.specs.Keeps.{Writes, Maps, InSlot, under_ticket, handed, Pairing, noted_pairing, host_pairing, Work, noted_work, host_work}
 use Rattle.law.proofs.Inv.{Links, Requests, BayHeld, SegmentMapped, JobHeld, OrderHeld, RequestHeld, no_part}
-use Rattle.law.proofs.Books.{frame-owned, owns_parts, in_force}
+use Rattle.law.proofs.Books.{frame-owned, owns_parts, in_force, counted_is}
 use Rattle.law.proofs.Links.{connection-noted, job_noted_too, links_completed}
 use Rattle.law.proofs.Requested.{requests-completed}
-use Rattle.law.proofs.Tickets.{taken_inside, same_some}
-use Rattle.law.proofs.Released.{AllReleased, segments_released, counted-stands, uncounted}
+use Rattle.law.proofs.Tickets.{taken_inside, same_some, in_bay_is}
+use Rattle.law.proofs.Released.{AllReleased, segments_released, uncounted}
 use Rattle.law.proofs.Bytes.{page_there, responded-size, responded-others}
 use Rattle.law.proofs.Altered.{PartIn, filled-others}
 use Rattle.law.proofs.Marks.{responded_words}
 use Rattle.law.proofs.Bays.{under_done, turn_order}
 use Rattle.law.proofs.Moves.{moved_orders, moves_granted, done_granted, moved_size}
-use Rattle.law.proofs.Cases.{by_either, by_some}
+use Rattle.law.proofs.Cases.{by_either, ok_same}
 use Rattle.law.proofs.Outcomes.{HostInv, page-written, OutcomeGood}
 use Rattle.law.proofs.Serving.{outcome_same, response_noted, bays_apart}
 
@@ -54,18 +55,6 @@ few_bytes (p ∷ ps) h =
     let first : p.length ≤ 4096 = h 0 (omega arith) in
     let rest = few_bytes ps (λ i l. h (suc i) (omega arith)) in
     omega (arith, sum_by-cons (λ (q : Part). q.length) p ps)
-
-ok_same : {T E : Type 0} (x y : T) → ◌≡◌ {A = Result T E} (Ok x) (Ok y) → x ≡ y
-ok_same x y e = cc
-
--- the job in the bay
-in_bay_is : (b : Bay) (o : Option Job) (j : Job) → in_bay b o ≡ Some j → (o ≡ Some j) × (same_bay (bay_of j.kind) b ≡ true)
-in_bay_is b None j e = absurd (let z : ◌≡◌ {A = ℕ} 0 1 = cc in omega arith)
-in_bay_is b (Some x) j e = by (same_bay (bay_of x.kind) b) refl e
-  where
-    by : (v : Bool) → same_bay (bay_of x.kind) b ≡ v → cond v (Some x) None ≡ Some j → (Some x ≡ Some j) × (same_bay (bay_of j.kind) b ≡ true)
-    by true q r = (r, subst (λ (y : Job). same_bay (bay_of y.kind) b ≡ true) (same_some (Some x) x j refl r) q)
-    by false q r = absurd (let z : ◌≡◌ {A = ℕ} 0 1 = cc in omega arith)
 
 -- each segment of a job lies in a frame that domain 0 has mapped
 module _ (a : Account) (H : Tables) (m : List ℕ) (i : HostInv a H m) (t : ℕ) (j : Job) (there : at H.rings.jobs t ≡ Some j) where
@@ -253,7 +242,7 @@ module _ {X : Type 0} (D : Rules X) (laws : Laws D) (b : Bay) (a : Account) (H :
                   (subst (λ js. Links (released_all (handles_of j) H.grants).handles (responded_rings j.connection k (with_job t None H.rings)) (set a.connections j.connection (Some (with_response note.index old))) (set js t None)) (sym all.jobs)
                   (links_completed H.grants.handles (released_all (handles_of j) H.grants).handles H.rings a.connections a.jobs t j k old note.index there live old-there
                   (λ h l none. all.others (key 0 h) (λ n n-below e. uncounted (handles_of j) h n none n-below (let z : get_or (handles_of j) n 0 ≡ h = omega arith in z)))
-                  (λ h l some. let p = counted-stands (handles_of j) h some in subst (λ y. at (released_all (handles_of j) H.grants).handles (key 0 y) ≡ None) p.1.1 (all.free p.0 p.1.0))
+                  (λ h l some. let p = counted_is (λ y. eqb y h) 0 (handles_of j) some in subst (λ y. at (released_all (handles_of j) H.grants).handles (key 0 y) ≡ None) (eqb-true _ h p.1.1) (all.free p.0 p.1.0))
                   i.links));
               requests = subst (λ cs. Requests (set H.rings.jobs t None) cs (set (mappings_ended (handles_of j) (answered j.connection)).jobs t None)) (sym all.connections)
                   (subst (λ js. Requests (set H.rings.jobs t None) (set a.connections j.connection (Some (with_response note.index old))) (set js t None)) (sym all.jobs)

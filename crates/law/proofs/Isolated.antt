@@ -28,7 +28,8 @@ use Rattle.law.proofs.Books.{books_start}
 use Rattle.law.proofs.Links.{links_start}
 use Rattle.law.proofs.Requested.{requests-start}
 use Rattle.law.proofs.Marks.{words_start}
-use Rattle.law.proofs.Tickets.{at-replicate}
+use Rattle.grant_law.proofs.Places.{at-replicate}
+use Rattle.law.proofs.Cases.{ok_same}
 use Rattle.law.proofs.Good.{Good, Unbroken, after, good_refused, law_of-step}
 use Rattle.law.proofs.Simple.{good_take, good_give, good_load, good_store, good_entry, good_end, good_map, good_unmap, good_send, good_next}
 use Rattle.law.proofs.Connecting.{good_connect, good_disconnect}
@@ -47,9 +48,6 @@ guest_unbroken false false f e x z = let y : ◌≡◌ {A = ℕ} 0 1 = cc in ome
 memory_unbroken : (p : Bool) (f : HostFault) → refuse_first {T = Unit} ((p, BadMemory) ∷ []) (Ok tt) ≡ Err f → Unbroken f
 memory_unbroken true f e x z = let y : ◌≡◌ {A = ℕ} 0 1 = cc in omega arith
 memory_unbroken false f e x z = let y : ◌≡◌ {A = ℕ} 0 1 = cc in omega arith
-
-ok_is : {T E : Type 0} (x y : T) → ◌≡◌ {A = Result T E} (Ok x) (Ok y) → x ≡ y
-ok_is x y e = cc
 
 module _ {M N : Type 0} (R : Rules M) (S : Rules N) (pick : ℕ → ℕ) where
   host-unbroken : (w : World M N) (c : Call) (f : HostFault) → refuse_first {T = Unit} (host_rules R S pick w c) (Ok tt) ≡ Err f → Unbroken f
@@ -149,7 +147,7 @@ module _ {M N : Type 0} (R : Rules M) (S : Rules N) (pick : ℕ → ℕ) where
   unfolding started new_host nothing_yet
   start-inv w s =
       let none = none-held (start_rules s.count w.memory) (Ok (new_host s.count)) w.host s.new in
-      let host : new_host s.count ≡ w.host = ok_is _ _ none.1 in
+      let host : new_host s.count ≡ w.host = ok_same _ _ none.1 in
       let parts = or_parts _ _ none.0.0 in
       let few : s.count ≤ 256 = ltb-false 256 s.count (or_parts _ _ parts.0).1 in
       let size : length w.memory ≡ 4096 * s.count = eqb-true (length w.memory) (4096 * s.count) (not-false _ parts.1) in

@@ -27,7 +27,7 @@ use Rattle.ring.specs.declared.fault.RingFault.TheVariants.{Busy, NoJob, NotLive
 use Rattle.request.specs.Check.{miss}
 use Rattle.request.specs.Checked.{check_verdict}
 use Rattle.request.specs.Content.{Asked}
-use Rattle.connection.specs.Tables.{connection_at, job_at, in_bay, parts_of, has_two_jobs, same_bay, bay_of, next_ticket, with_job, handles_of}
+use Rattle.connection.specs.Tables.{connection_at, job_at, in_bay, parts_of, has_two_jobs, next_ticket, with_job, handles_of}
 use Rattle.connection.specs.declared.kinds.Bay.{Bay}
 use Rattle.connection.specs.declared.tables.Connection.{Connection}
 use Rattle.connection.specs.declared.tables.Job.{Job}
@@ -41,6 +41,7 @@ use Rattle.law.specs.World.{with_grants, with_rings}
 use Rattle.law.specs.Serve.{Outcome, responded, answered_now, handed_over, segments_mapped, spent, served_on, served}
 use Rattle.law.specs.Complete.{closed, broken_off, finished, completed_job, completed}
 use Rattle.law.proofs.Inv.{no_part}
+use Rattle.law.proofs.Tickets.{in_bay_is}
 use Rattle.law.proofs.Altered.{PartIn}
 
 -- bytes of a frame, out of the frame's bytes
@@ -195,16 +196,6 @@ served_learns {X} D c H m m' x size same =
     some_alike (connection_at H.rings c) (none m') (none m) (λ k. served_on D c k H m' x) (λ k. served_on D c k H m x) (refl, refl)
     (λ k live. served-on-alike D m m' c k H x size (same k live))
 
--- a job that passes a test is that job
-kept_if : (b : Bool) (i j : Job) → cond b (Some i) None ≡ Some j → Some i ≡ Some j
-kept_if true i j e = e
-kept_if false i j e = absurd (let z : ◌≡◌ {A = ℕ} 0 1 = cc in omega arith)
-
--- a job of a bay is the job under its ticket
-in_bay_is : (b : Bay) (o : Option Job) (j : Job) → in_bay b o ≡ Some j → o ≡ Some j
-in_bay_is b None j e = e
-in_bay_is b (Some i) j e = kept_if (same_bay (bay_of i.kind) b) i j e
-
 -- what follows when the bytes of a job were moved, with the memory l and the device y
 module _ {X : Type 0} (D : Rules X) (t : ℕ) (j : Job) (H : Tables) where
   abbrev ended : Result Unit DeviceFault → X → List ℕ → Outcome X
@@ -255,6 +246,6 @@ completed_learns {X} D b H m m' x size lies =
     (λ t. if_some (in_bay b (job_at H.rings t)) (none m') (λ j. completed_job D t j H m' x)) (λ t. if_some (in_bay b (job_at H.rings t)) (none m) (λ j. completed_job D t j H m x)) (refl, refl)
     (λ t _. some_alike (in_bay b (job_at H.rings t)) (none m') (none m) (λ j. completed_job D t j H m' x) (λ j. completed_job D t j H m x) (refl, refl)
     (λ j there.
-    let same = moved_same D j.direction t (parts_of j) x m m' size (lies t j (in_bay_is b (job_at H.rings t) j there)) in
+    let same = moved_same D j.direction t (parts_of j) x m m' size (lies t j (in_bay_is b (job_at H.rings t) j there).0) in
     ended_same D t j H (moving D j.direction t (parts_of j) m' x) (moving D j.direction t (parts_of j) m x) (moved_device D j.direction t (parts_of j) m' x) (moved_device D j.direction t (parts_of j) m x)
     (moved_memory D j.direction t (parts_of j) m' x) (moved_memory D j.direction t (parts_of j) m x) same.0 same.1))

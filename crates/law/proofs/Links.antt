@@ -1,8 +1,9 @@
 -- The host's connections and jobs stay the account's, and domain 0's handles stay theirs.
-use Rattle.std.proofs.Common.{◌≡◌, ℕ, zero, suc, ◌+◌, ◌*◌, ◌<◌, ◌≤◌, Bool, true, false, cond, eqb, List, length, get_or, take, set, replicate, is_some, Some, None, sum_by, count_by, Option, sym, refl, ap, ◌∙◌, subst, inl, inr, arith}
+use Rattle.std.proofs.Common.{◌≡◌, ℕ, ◌+◌, ◌*◌, ◌<◌, ◌≤◌, Bool, true, false, cond, eqb, List, length, get_or, take, set, replicate, is_some, Some, None, sum_by, count_by, Option, sym, refl, ap, ◌∙◌, subst, inl, inr, arith}
 use Rattle.std.specs.Option.{option_map}
 use Rattle.std.proofs.lemmas.List.{get_or-set_same, get_or-set_other, get_or-take, length-set, length-map, length-take-le, length_push, set-set}
 use Rattle.std.proofs.lemmas.List.Sums.{sum_by-set, get_or-le-sum_by}
+use Rattle.std.proofs.lemmas.List.Folds.{sum_by-replicate}
 use Rattle.std.proofs.lemmas.Bool.{cases_eq, cases_lt, eq-eqb, ne_eqb, or_parts, both_ways}
 use Rattle.abi.specs.Index.{shown}
 use Rattle.rules.specs.Tables.{at}
@@ -18,10 +19,11 @@ use Rattle.connection.specs.declared.tables.Job.{Job}
 use Rattle.connection.specs.declared.tables.Rings.{Rings}
 use Rattle.backend.specs.Look.{consumed, consumed_on, next_index}
 use Rattle.backend.specs.Respond.{responded_rings}
+use Rattle.grant_law.proofs.Places.{at-replicate}
 use Rattle.law.specs.Account.{ConnectionNote, JobNote, with_request, with_response}
 use Rattle.law.specs.Keeps.{Pairing, host_pairing, noted_pairing, host_work, noted_work, Counted}
 use Rattle.law.proofs.Inv.{Links, PageMapped, SegmentMapped, JobHeld, ring_has, segments_with, handle_uses, no_part}
-use Rattle.law.proofs.Tickets.{none_some, same_some, taken_inside, at_set, set_taken, at-replicate, mapped_too, same_places, same_some_ness, same_set, two_in_sum, free_ticket, ticket_range}
+use Rattle.law.proofs.Tickets.{none_some, same_some, taken_inside, at_set, set_taken, mapped_too, same_places, same_some_ness, same_set, two_in_sum, free_ticket, ticket_range}
 
 -- the host's tables and the account's are taken or free at the same places
 module _ (hs : List (Option Mapping)) (C : Rings) (conns : List (Option ConnectionNote)) (jobs : List (Option JobNote)) (L : Links hs C conns jobs) where
@@ -503,14 +505,6 @@ links_completed hs hs' C conns jobs t j k n i held live noted others freed L =
     (links_job_gone hs hs' C conns jobs t j held others freed L)
 
 -- the start: nothing is there
-no_rings : (h n : ℕ) → count_by (ring_has h) (replicate n None) ≡ 0
-no_rings h zero = refl
-no_rings h (suc n) = no_rings h n
-
-no_segments : (h n : ℕ) → sum_by (segments_with h) (replicate n None) ≡ 0
-no_segments h zero = refl
-no_segments h (suc n) = no_segments h n
-
 pub links_start : Links (replicate 512 None) new_rings (replicate 6 None) (replicate 12 None)
 links_start = record {
   connections-size = refl;
@@ -518,7 +512,11 @@ links_start = record {
   connections_same = refl;
   jobs_same = refl;
   indices = λ c k n e f. none_some (at (replicate 6 None) c) k (at-replicate 6 c None) e;
-  own = λ h l. rw (at-replicate {X = Option Mapping} 512 (key 0 h) None) (omega (arith, no_rings h 6, no_segments h 12));
+  own = λ h l. (
+      let rings : count_by (ring_has h) (replicate 6 None) ≡ 0 = sum_by-replicate (λ o. cond {A = ℕ} (ring_has h o) 1 0) 6 None in
+      let segments : sum_by (segments_with h) (replicate 12 None) ≡ 0 = sum_by-replicate (segments_with h) 12 None in
+      rw (at-replicate {X = Option Mapping} 512 (key 0 h) None) (omega arith)
+      );
   page = λ c k e. none_some (at (replicate 6 None) c) k (at-replicate 6 c None) e;
   job = λ t j e. none_some (at (replicate 12 None) t) j (at-replicate 12 t None) e;
 }

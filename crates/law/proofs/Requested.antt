@@ -16,14 +16,15 @@ use Rattle.connection.specs.declared.tables.Rings.{Rings}
 use Rattle.law.specs.Account.{ConnectionNote, JobNote, with_request, with_response}
 use Rattle.law.specs.Keeps.{nth, on_connection, Work}
 use Rattle.law.proofs.Inv.{Links, Requests, RequestHeld, OrderHeld, job_has, request_uses}
-use Rattle.law.proofs.Tickets.{none_some, same_some, taken_inside, at_set, set_taken, at-replicate, free_or_taken, two_in_sum, none_pass, free_ticket, ticket_range}
+use Rattle.law.proofs.Tickets.{none_some, same_some, taken_inside, at_set, set_taken, free_or_taken, two_in_sum, none_pass, free_ticket, ticket_range}
+use Rattle.grant_law.proofs.Places.{at-replicate, stood_before}
 use Rattle.law.proofs.Links.{job-held_too, job_notes_size}
 
 -- an element keeps its number when another is put behind, and the last has the number that was the count
 nth_before : {X : Type 0} (xs : List X) (y : X) (k : ℕ) (x : X) → nth xs k ≡ Some x → nth (xs ++ y ∷ []) k ≡ Some x
 nth_before xs y k x e = rw (map_push Some xs y) (get_or_append_left (map Some xs) (Some y ∷ []) None k (taken_inside (map Some xs) k x e) ∙ e)
 
-nth_last : {X : Type 0} (xs : List X) (y : X) → nth (xs ++ y ∷ []) (length xs) ≡ Some y
+pub nth_last : {X : Type 0} (xs : List X) (y : X) → nth (xs ++ y ∷ []) (length xs) ≡ Some y
 nth_last xs y = rw (map_push Some xs y) (get_or_push (map Some xs) (Some y) None (length xs) (length-map xs Some))
 
 -- a job's request stays where it is when another is put behind, and when a response is
@@ -111,8 +112,8 @@ module _ (hs : List (Option Mapping)) (C : Rings) (conns : List (Option Connecti
   ]
 
   -- connect: the new connection has no requests yet
-  requests-opened-by : (c : ℕ) (n : ConnectionNote) → at C.connections c ≡ None → n.requests ≡ [] → n.answered ≡ [] → Requests C.jobs conns jobs → Requests C.jobs (set conns c (Some n)) jobs
-  requests-opened-by c n dead e f Q =
+  pub requests_opened : (c : ℕ) (n : ConnectionNote) → at C.connections c ≡ None → n.requests ≡ [] → n.answered ≡ [] → Requests C.jobs conns jobs → Requests C.jobs (set conns c (Some n)) jobs
+  requests_opened c n dead e f Q =
       let none : length n.requests ≡ 0 = rw e in
       let unanswered : length n.answered ≡ 0 = rw f in
       record {
@@ -127,23 +128,14 @@ module _ (hs : List (Option Mapping)) (C : Rings) (conns : List (Option Connecti
         order = Q.order;
       }
 
--- the same, with its premises in another order
-pub requests_opened : (hs : List (Option Mapping)) (C : Rings) (conns : List (Option ConnectionNote)) (jobs : List (Option JobNote)) (c : ℕ) (n : ConnectionNote)
-    → at C.connections c ≡ None → n.requests ≡ [] → n.answered ≡ []
-    → Links hs C conns jobs → Requests C.jobs conns jobs → Requests C.jobs (set conns c (Some n)) jobs
-requests_opened hs C conns jobs c n dead e f L Q = requests-opened-by hs C conns jobs L c n dead e f Q
-
 -- disconnect: the others stay
-before_none : (conns : List (Option ConnectionNote)) (c d : ℕ) (n : ConnectionNote) → at (set conns c None) d ≡ Some n → at conns d ≡ Some n
-before_none conns c d n e = elim (at_set conns c d None n e) [ inl a ↦ none_some None n refl a.1 | inr a ↦ a.1 ]
-
 pub requests-closed : (hs : List (Option Mapping)) (C : Rings) (conns : List (Option ConnectionNote)) (jobs : List (Option JobNote)) (c : ℕ) (k : Connection)
     → at C.connections c ≡ Some k → has_jobs C.jobs c ≡ false
     → Links hs C conns jobs → Requests C.jobs conns jobs → Requests C.jobs (set conns c None) jobs
 requests-closed hs C conns jobs c k live idle L Q = record {
-  once = λ d i n e. Q.once d i n (before_none conns c d n e);
-  total = λ d n e. Q.total d n (before_none conns c d n e);
-  request = λ t j x n f g e. Q.request t j x n f g (before_none conns c x.connection n e);
+  once = λ d i n e. Q.once d i n (stood_before conns c d n e);
+  total = λ d n e. Q.total d n (stood_before conns c d n e);
+  request = λ t j x n f g e. Q.request t j x n f g (stood_before conns c x.connection n e);
   order = Q.order;
 }
 

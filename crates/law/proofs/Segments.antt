@@ -1,9 +1,8 @@
 -- Domain 0 maps the segments of a request in turn, in the tables and in the account.
-use Rattle.std.proofs.Common.{◌≡◌, ℕ, suc, ◌+◌, ◌*◌, ◌<◌, ◌≤◌, cond, eqb, List, [], ◌∷◌, ◌++◌, length, get_or, is_some, Some, None, Ok, Err, sum_by, count_by, Option, Result, unwrap_or, sym, refl, ap, ◌∙◌, subst, inl, inr, arith}
+use Rattle.std.proofs.Common.{◌≡◌, ℕ, suc, ◌+◌, ◌*◌, ◌<◌, ◌≤◌, cond, eqb, List, [], ◌∷◌, ◌++◌, length, get_or, is_some, Some, None, Ok, sum_by, count_by, Option, unwrap_or, sym, refl, ap, ◌∙◌, subst, inl, inr, arith}
 use Rattle.std.proofs.lemmas.List.{length-set, get_or-set_same, get_or-set_other, get_or_past, take_more_set}
 use Rattle.std.proofs.lemmas.List.Sums.{sum_by-cons, sum_by_push}
 use Rattle.std.proofs.lemmas.Bool.{cases_eq, cases_lt, eq-eqb, ne_eqb}
-use Rattle.rules.specs.Refusal.{either_of}
 use Rattle.rules.specs.Tables.{at}
 use Rattle.device.specs.declared.transfer.Part.{Part}
 use Rattle.frame.specs.declared.owners.Frames.{Frames}
@@ -19,6 +18,7 @@ use Rattle.backend.specs.Segments.{mode_for, part_in, with_segment, MappingDone,
 use Rattle.law.specs.Account.{Account, mapping_noted, next_handle, spans_noted}
 use Rattle.law.proofs.Inv.{BooksOf, SegmentMapped, no_part}
 use Rattle.law.proofs.Books.{MapAccepted, map-accepted, owns_parts, books_pinned, next_handle_same}
+use Rattle.law.proofs.Cases.{by_either}
 use Rattle.law.proofs.Spans.{no_span}
 
 -- 1 where domain 0's handle h is in use
@@ -52,12 +52,6 @@ pub record AllPinned (F : Frames) (G G' : Grants) (a a' : Account) (i : ℕ) (j 
   pub earlier : (n : ℕ) → n < i → (get_or j'.handles n 0 ≡ get_or j.handles n 0) × (get_or j'.parts n no_part ≡ get_or j.parts n no_part)
   pub segments : ((n : ℕ) → n < length ss → (get_or ss n no_span).start + (get_or ss n no_span).length ≤ 4096)
       → (n : ℕ) → i ≤ n → n < i + length ss → SegmentMapped G'.handles j.direction (get_or j'.handles n 0) (get_or j'.parts n no_part)
-
--- what holds of both ways that a verdict may go holds of the one that it goes
-pub by_either : {T E Y : Type 0} (P : Y → Type 0) (r : Result T E) (f : T → Y) (g : E → Y)
-    → ((t : T) → r ≡ Ok t → P (f t)) → ((e : E) → r ≡ Err e → P (g e)) → P (either_of r f g)
-by_either P (Ok t) f g p q = p t refl
-by_either P (Err e) f g p q = q e refl
 
 -- one segment more, under the free handle of g, with the rest mapped behind it
 module _ (F : Frames) (G : Grants) (a : Account) (guest i : ℕ) (j : Job) (s : Span) (g : Grant)

@@ -1,7 +1,8 @@
 -- serve: whatever becomes of the request, the outcome is good.
-use Rattle.std.proofs.Common.{◌≡◌, ℕ, ◌+◌, ◌-◌, ◌*◌, ◌<◌, ◌≤◌, Bool, true, false, cond, ◌||◌, eqb, ltb, List, [], ◌∷◌, ◌++◌, map, length, get_or, set, ℤ, is_some, Some, None, Ok, Err, sum_by, count_by, Option, Result, sym, refl, ap, ◌∙◌, subst, inl, inr, arith}
-use Rattle.std.proofs.lemmas.List.{get_or-set_same, get_or-set_other, get_or_push, length_push, map_push, length-map}
-use Rattle.std.proofs.lemmas.Bool.{cases_eq, or_parts, both_ways, cond-false}
+use Rattle.std.proofs.Common.{◌≡◌, ℕ, ◌+◌, ◌-◌, ◌*◌, ◌<◌, ◌≤◌, Bool, true, false, cond, ◌||◌, eqb, ltb, List, [], ◌∷◌, ◌++◌, length, get_or, set, ℤ, is_some, Some, None, Ok, Err, sum_by, count_by, Option, Result, sym, refl, ap, ◌∙◌, subst, inl, inr, arith}
+use Rattle.std.proofs.lemmas.List.{get_or-set_same, get_or-set_other, get_or_push, length_push}
+use Rattle.std.proofs.lemmas.Option.{same_Some}
+use Rattle.std.proofs.lemmas.Bool.{cases_eq, or_parts, both_ways, cond-false, cond_both}
 use Rattle.layout.specs.Layout.{le}
 use Rattle.abi.specs.Index.{shown, distance}
 use Rattle.abi.specs.Page.{slots, slot_start}
@@ -18,6 +19,7 @@ use Rattle.grant.specs.Tables.{key}
 use Rattle.grant.specs.Map.{mode_of}
 use Rattle.grant.specs.declared.tables.Mapping.{Mapping}
 use Rattle.grant.specs.declared.tables.Grants.{Grants}
+use Rattle.grant_law.proofs.Places.{by_some}
 use Rattle.ringpage.specs.declared.slot.Request.{Request}
 use Rattle.ring.specs.Total.{request_or_zeros, word_or_zero}
 use Rattle.ring.specs.Fault.{status_of}
@@ -48,7 +50,7 @@ use Rattle.law.specs.Keeps.{Writes, InSlot, nth, responses, handed, Pairing, hos
 use Rattle.law.proofs.Inv.{Links, Requests, BayHeld, SegmentMapped, no_part}
 use Rattle.law.proofs.Books.{frame-owned, owns_parts}
 use Rattle.law.proofs.Links.{connection-noted, job-held_too, next_ticket_same, links_answered, links_handed, job_notes_size}
-use Rattle.law.proofs.Requested.{requests-answered, requests-handed}
+use Rattle.law.proofs.Requested.{nth_last, requests-answered, requests-handed}
 use Rattle.law.proofs.Tickets.{at_set, taken_inside, same_some, none_some, free_ticket, ticket_range}
 use Rattle.law.proofs.Segments.{AllPinned, segments_pinned}
 use Rattle.law.proofs.Undoing.{Undone, segments_refused, segments_undone}
@@ -56,13 +58,9 @@ use Rattle.law.proofs.Spans.{no_span, checked-spans}
 use Rattle.law.proofs.Bytes.{put_size, put_others, page_there, responded-size, responded-others, response_stands, slot-shown, request_shown}
 use Rattle.law.proofs.Marks.{responded_words}
 use Rattle.law.proofs.Bays.{under-accepted}
-use Rattle.law.proofs.Cases.{by_either, by_some, by_cond}
-use Rattle.law.proofs.Good.{no_response}
+use Rattle.law.proofs.Cases.{by_either}
+use Rattle.law.proofs.Good.{no_answer, no_response}
 use Rattle.law.proofs.Outcomes.{HostInv, page-written, OutcomeGood}
-
--- the last of a list
-nth_push : {X : Type 0} (xs : List X) (y : X) → nth (xs ++ y ∷ []) (length xs) ≡ Some y
-nth_push xs y = ap (λ os. at os (length xs)) (map_push Some xs y) ∙ get_or_push (map Some xs) (Some y) None (length xs) (length-map xs Some)
 
 -- a response that is noted on the connection c stands in its slot
 pub response_noted : (a : Account) (c : ℕ) (old new : ConnectionNote) (index : ℕ) (k : Connection) (q₀ : Request) (status : ℤ) (m : List ℕ)
@@ -110,13 +108,6 @@ bays_apart NetBay BlockBay d p q = absurd (both_ways false refl p)
 bays_apart NetBay NetBay BlockBay p q = refl
 bays_apart NetBay NetBay NetBay p q = q
 
--- no response was written where a connection's answers are as before
-no_answer : {X : Type 0} (a : Account) (c j : ℕ) (old n : ConnectionNote) → at a.connections c ≡ Some old → n.answered ≡ old.answered → responses a c ≤ j → j < length n.answered → X
-no_answer a c j old n there same low high =
-    let many : responses a c ≡ length old.answered = ap (λ (o : Option ConnectionNote). if_some {Y = ℕ} o 0 (λ x. length x.answered)) there in
-    let long : length n.answered ≡ length old.answered = ap length same in
-    absurd (omega arith)
-
 -- what a look at the ring says: it is refused by the layer of rings, and finds a request only where the back end is free
 looked : Bool → ℕ → Bool → Result Bool RingFault
 looked t n busy = and_then (refuse_first ((t, BadIndex) ∷ []) (Ok n)) (λ z. cond (eqb z 0) (Ok false) (refuse_first ((busy, Busy) ∷ []) (Ok true)))
@@ -148,9 +139,6 @@ look_free busy k m e = looked_free (ltb (slots k.kind - distance k.rsp_prod k.re
 look_ring : (busy : Bool) (k : Connection) (m : List ℕ) (e : RingFault) → look busy k m ≡ Err e → (d : DeviceFault) → e ≡ OfDevice d → ⊥
 unfolding looked
 look_ring busy k m e q d r = looked_ring (ltb (slots k.kind - distance k.rsp_prod k.req_cons) (distance k.req_cons (word_or_zero m k.page ReqProd))) (distance k.req_cons (word_or_zero m k.page ReqProd)) busy e q d r
-
-some_is : {X : Type 0} (x y : X) → Some x ≡ Some y → x ≡ y
-some_is x y e = cc
 
 module _ {X : Type 0} (D : Rules X) (laws : Laws D) (b : Bay) (a : Account) (H : Tables) (m : List ℕ) (x : X)
     (i : HostInv a H m) (held : BayHeld D x b a.jobs) (c : ℕ) where
@@ -271,7 +259,7 @@ module _ {X : Type 0} (D : Rules X) (laws : Laws D) (b : Bay) (a : Account) (H :
         owners = refl;
         alters = λ g h wr. only-page memory-then (λ g' n. responded-others (consumed k) (id_of taken) (operation_of taken) (status_of f.fault) m g' n) g wr;
         response = response_noted a c note (with_response (length note.requests) (with_request taken note)) (length note.requests) (consumed k) taken (status_of f.fault) m
-            there refl kind-same page-same (nth_push note.requests taken) (i.links.indices c k note live there).produced page-inside;
+            there refl kind-same page-same (nth_last note.requests taken) (i.links.indices c k note live there).produced page-inside;
         unbroken = λ e q. let z : ◌≡◌ {A = ℕ} 0 1 = cc in omega arith;
       }
 
@@ -385,7 +373,7 @@ module _ {X : Type 0} (D : Rules X) (laws : Laws D) (b : Bay) (a : Account) (H :
               owners = p.owners;
               alters = λ f h wr. refl;
               response = λ c' j n q e low high at-index. elim (at_set (segments k.guest).account.connections c c' (Some (with_request taken note)) n e) [
-                | inl here ↦ no_answer a c' j note n (ap (λ d. at a.connections d) here.0 ∙ there) (ap (λ (y : ConnectionNote). y.answered) (sym (some_is _ _ here.1))) low high
+                | inl here ↦ no_answer a c' j note n (ap (λ d. at a.connections d) here.0 ∙ there) (ap (λ (y : ConnectionNote). y.answered) (sym (same_Some _ _ here.1))) low high
                 | inr other ↦ no_response a a refl c' j n (ap (λ cs. at cs c') (sym p.connections) ∙ other.1) low high
               ];
               unbroken = λ e q. let z : ◌≡◌ {A = ℕ} 0 1 = cc in omega arith;
@@ -415,7 +403,7 @@ module _ {X : Type 0} (D : Rules X) (laws : Laws D) (b : Bay) (a : Account) (H :
     served-on-good bay-same =
         let busy = is_full D x || has_two_jobs H.rings.jobs c in
         by_either Served (look busy k m) _ _
-        (λ found e. by_cond Served found _ _
+        (λ found e. cond_both found _ _ Served
         (λ yes. spent-good bay-same (or_parts (is_full D x) (has_two_jobs H.rings.jobs c) (look_free busy k m (subst (λ (z : Bool). look busy k m ≡ Ok z) yes e))).1)
         (λ no. idle_good))
         (λ e q. outcome_same (Err e) (λ z r. look_ring busy k m e q z (let y : e ≡ OfDevice z = cc in y)))

@@ -1,0 +1,24 @@
+-- Tables of places that are free or taken, whatever stands in them.
+use Rattle.std.proofs.Common.{◌≡◌, ℕ, zero, suc, List, [], ◌∷◌, get_or, set, replicate, Some, None, Option, refl}
+use Rattle.std.proofs.lemmas.Option.{none-some}
+use Rattle.rules.specs.Refusal.{if_some}
+use Rattle.rules.specs.Tables.{at}
+
+-- in a list of equal elements each is that one
+pub at-replicate : {X : Type 0} (n i : ℕ) (x : X) → get_or (replicate n x) i x ≡ x
+at-replicate zero i x = refl
+at-replicate (suc n) zero x = refl
+at-replicate (suc n) (suc i) x = at-replicate n i x
+
+-- what stands in a table after a place of it was freed stood there before
+pub stood_before : {X : Type 0} (xs : List (Option X)) (i k : ℕ) (x : X) → at (set xs i None) k ≡ Some x → at xs k ≡ Some x
+stood_before [] i k x e = e
+stood_before (y ∷ ys) zero zero x e = absurd (none-some x e)
+stood_before (y ∷ ys) zero (suc k) x e = e
+stood_before (y ∷ ys) (suc i) zero x e = e
+stood_before (y ∷ ys) (suc i) (suc k) x e = stood_before ys i k x e
+
+-- what holds whether a place is free or something is there holds of what is made of it
+pub by_some : {X Y : Type 0} (P : Y → Type 0) (o : Option X) (y : Y) (f : X → Y) → (o ≡ None → P y) → ((x : X) → o ≡ Some x → P (f x)) → P (if_some o y f)
+by_some P None y f p q = p refl
+by_some P (Some x) y f p q = q x refl
