@@ -10,6 +10,14 @@ at-replicate zero i x = refl
 at-replicate (suc n) zero x = refl
 at-replicate (suc n) (suc i) x = at-replicate n i x
 
+-- what holds of each element, and of one that is set, holds of each then
+pub each_set : {X : Type 0} (P : X → Type 0) (xs : List X) (i : ℕ) (y d : X) → P y → ((j : ℕ) → P (get_or xs j d)) → (j : ℕ) → P (get_or (set xs i y) j d)
+each_set P [] i y d p h j = h j
+each_set P (x ∷ xs) zero y d p h zero = p
+each_set P (x ∷ xs) zero y d p h (suc j) = h (suc j)
+each_set P (x ∷ xs) (suc i) y d p h zero = h 0
+each_set P (x ∷ xs) (suc i) y d p h (suc j) = each_set P xs i y d p (λ k. h (suc k)) j
+
 -- what stands in a table after a place of it was freed stood there before
 pub stood_before : {X : Type 0} (xs : List (Option X)) (i k : ℕ) (x : X) → at (set xs i None) k ≡ Some x → at xs k ≡ Some x
 stood_before [] i k x e = e

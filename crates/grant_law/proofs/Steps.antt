@@ -19,7 +19,7 @@ use Rattle.grant.specs.declared.tables.Grants.{Grants}
 use Rattle.grant_law.specs.Sound.{Sound, StaysSound, through, count_of}
 use Rattle.grant_law.proofs.Places.{at-replicate}
 use Rattle.grant_law.proofs.Counting.{counted_bound, pinned-counts}
-use Rattle.grant_law.proofs.Verdicts.{accepted, lowest_is_free}
+use Rattle.grant_law.proofs.Verdicts.{map_accepted}
 use Rattle.grant_law.proofs.Pinning.{pinned_sound}
 use Rattle.grant_law.proofs.Unpinning.{released_sound}
 
@@ -98,10 +98,10 @@ let_go_sound F G f z s = owner_sound F G f None (λ o n b l p e. pins-at G.recor
 pinning_sound : (F : Frames) (G : Grants) (d owner reference mode : ℕ) (g : Grant) → d < 8
     → map_verdict F G d owner reference mode ≡ Ok g → Sound F G → Sound F (pin d g.handle g.mapping G)
 pinning_sound F G d owner reference mode g b q s =
-    let a = accepted F G d owner reference mode g q in
-    let free = lowest_is_free G.handles d g.handle b s.handles_size a.free in
+    let a = map_accepted F G d owner reference mode g b s.handles_size q in
     subst (λ p. Sound F (pin d g.handle p G)) (sym a.made)
-    (pinned_sound F G d g.handle (mapping_of G owner reference (mode_of mode)) s b free.0 a.domain a.within free.1 a.owned a.same)
+    (pinned_sound F G d g.handle (mapping_of G owner reference (mode_of mode)) s b a.handle a.domain a.within a.free
+    (subst (λ (p : Mapping). owns F owner p.frame ≡ true) a.made a.owned) a.same)
 
 pub stays_sound : StaysSound
 stays_sound = record {

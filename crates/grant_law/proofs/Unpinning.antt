@@ -15,7 +15,7 @@ use Rattle.grant_law.proofs.Counting.{counted_bound, counted_use, counted-unpin,
 use Rattle.grant_law.proofs.Weights.{removed-weight, removed-told}
 use Rattle.grant_law.proofs.Verdicts.{in_use_is}
 use Rattle.grant_law.proofs.Pinning.{and_true}
-use Rattle.grant_law.proofs.Places.{stood_before, by_some}
+use Rattle.grant_law.proofs.Places.{each_set, stood_before, by_some}
 
 -- the mapping p is in use under the handle h of the domain d
 module _ (F : Frames) (G : Grants) (d h : ℕ) (p : Mapping) (s : Sound F G)
@@ -58,11 +58,6 @@ module _ (F : Frames) (G : Grants) (d h : ℕ) (p : Mapping) (s : Sound F G)
         | inr n ↦ rw get_or-set_other ((λ v. v), refl, refl)
       ]
 
-  after-placed : (k : ℕ) → placed (at after.handles k) ≡ true
-  after-placed k =
-      let inside = key-inside in
-      elim (cases_eq k (key d h)) [ inl e ↦ rw (e, get_or-set_same) | inr n ↦ rw get_or-set_other (s.all_placed k) ]
-
   after-pins : (f : ℕ) → pins after.records f ≡ count_by (of_frame false f) after.handles
   after-pins f =
       let r = record_at G (place_of p) in
@@ -87,7 +82,7 @@ module _ (F : Frames) (G : Grants) (d h : ℕ) (p : Mapping) (s : Sound F G)
     entries_size = length-set G.entries (place_of p) _ ∙ s.entries_size;
     records_size = length-set G.records (place_of p) _ ∙ s.records_size;
     handles_size = length-set G.handles (key d h) _ ∙ s.handles_size;
-    all_placed = after-placed;
+    all_placed = each_set (λ o. placed o ≡ true) G.handles (key d h) None None refl s.all_placed;
     counts = counted-unpin G.records G.handles s.handles_size s.counts (key d h) p key-inside here s.records_size place-below;
     told = λ d' h' q b l e. (let was = s.told d' h' q b l (stood_before G.handles (key d h) (key d' h') q e) in let r = record-after (place_of q) in (r.1 ∙ was.0, r.2 ∙ was.1));
     owned = λ o n b l is-pinned. (let r = record-after (place o n) in subst (λ v. owns F o v ≡ true) (sym r.1) (s.owned o n b l (r.0 is-pinned)));

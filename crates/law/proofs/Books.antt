@@ -32,7 +32,7 @@ use Rattle.grant_law.proofs.Pinning.{and_true}
 use Rattle.grant_law.proofs.Steps.{stays_sound}
 use Rattle.grant_law.proofs.Places.{at-replicate, stood_before}
 use Rattle.grant_law.proofs.Unpinning.{unpin-is, after-sound}
-use Rattle.grant_law.proofs.Verdicts.{accepted, lowest_is_free, in_use_is}
+use Rattle.grant_law.proofs.Verdicts.{Accepted, map_accepted, in_use_is}
 use Rattle.law.specs.World.{new_host}
 use Rattle.law.specs.Account.{Account, MappingNote, nothing_yet, counted, noted_owner, noted_entry, mapping_noted, mapping_ended}
 use Rattle.law.specs.Keeps.{Maps, Writes, Granted, on_frame}
@@ -211,33 +211,6 @@ owns_parts F d f e =
     let w = and_parts (ltb f F.count) (is_domain d (owner_of F f)) e in
     (ltb-true f F.count w.0, domain_is d (owner_of F f) w.1)
 
--- what an accepted map says
-pub record MapAccepted (F : Frames) (G : Grants) (d o n md : ℕ) (g : Grant) : Type 0 where
-  pub handle : g.handle < 64
-  pub free : at G.handles (key d g.handle) ≡ None
-  pub lowest_is : lowest G.handles d ≡ Some g.handle
-  pub mapping : g.mapping ≡ mapping_of G o n (mode_of md)
-  pub owner : o < 8
-  pub reference : n < 32
-  pub names_it : names (entry_at G (place o n)) d ≡ true
-  pub owned : owns F o g.mapping.frame ≡ true
-
--- and that it says so
-pub map-accepted : (F : Frames) (G : Grants) (d o n md : ℕ) (g : Grant) → d < 8 → length G.handles ≡ 512 → map_verdict F G d o n md ≡ Ok g → MapAccepted F G d o n md g
-map-accepted F G d o n md g b size q =
-    let a = accepted F G d o n md g q in
-    let low = lowest_is_free G.handles d g.handle b size a.free in
-    record {
-      handle = low.0;
-      free = low.1;
-      lowest_is = a.free;
-      mapping = a.made;
-      owner = a.domain;
-      reference = a.within;
-      names_it = a.granted;
-      owned = subst (λ (p : Mapping). owns F o p.frame ≡ true) (sym a.made) a.owned;
-    }
-
 -- one more of the frame g
 pub counted-up : (g f : ℕ) (xs : List ℕ) → f < length xs → get_or (counted g xs) f 0 ≡ get_or xs f 0 + cond (eqb g f) 1 0
 counted-up g f xs b =
@@ -272,19 +245,19 @@ module _ (F : Frames) (G : Grants) (a : Account) (d o n md : ℕ) (g : Grant)
   the-note = record { mapping = record { owner = o; reference = n; frame = the-entry.frame; mode = mode_of md }; under = the-entry }
 
   -- what the host says by accepting
-  map-says : MapAccepted F G d o n md g
-  map-says = map-accepted F G d o n md g domain b.sound.handles_size verdict
+  map-says : Accepted F G d o n md g
+  map-says = map_accepted F G d o n md g domain b.sound.handles_size verdict
 
   -- the noted mapping is the granted one
   noted-is-granted : the-note.mapping ≡ g.mapping
   noted-is-granted =
       let e : mapping_of G o n (mode_of md) ≡ the-note.mapping = ap (λ (f : ℕ). let p : Mapping = record { owner = o; reference = n; frame = f; mode = mode_of md } in p) (b.frame_same (place o n)) in
-      sym e ∙ sym map-says.mapping
+      sym e ∙ sym map-says.made
 
   -- the noted entry names the mapper
   the-note-names : names the-entry d ≡ true
   the-note-names =
-      let w = map-says.names_it in
+      let w = map-says.granted in
       let t : eqb ((entry_at G (place o n)).flags % 4) 1 ≡ eqb (the-entry.flags % 4) 1 = ap (λ x. eqb x 1) (b.type_same (place o n)) in
       let m : eqb (entry_at G (place o n)).domid d ≡ eqb the-entry.domid d = ap (λ x. eqb x d) (b.domid_same (place o n)) in
       sym (ap (λ (x : Bool). x && eqb (entry_at G (place o n)).domid d) t ∙ ap (λ (x : Bool). eqb (the-entry.flags % 4) 1 && x) m) ∙ w
@@ -480,21 +453,21 @@ place_parts : (k : ℕ) → k < 512 → (d : ℕ) × (h : ℕ) × ((d < 8) × ((
 place_parts k b = (k / 64, k % 64, (omega arith, (omega arith, omega arith)))
 
 module _ (F : Frames) (G : Grants) (a : Account) (b : BooksOf F G a) where
-  -- the frame of a handle in use belongs to the entry's domain
-  pub frame-owned : (d h : ℕ) (p : Mapping) → d < 8 → h < 64 → at G.handles (key d h) ≡ Some p → owns F p.owner p.frame ≡ true
+  -- the frame of a handle in use exists, and is the entry's domain's
+  pub frame-owned : (d h : ℕ) (p : Mapping) → d < 8 → h < 64 → at G.handles (key d h) ≡ Some p → (p.frame < F.count) × (owner_of F p.frame ≡ Some p.owner)
   frame-owned d h p domain handle e =
       let s = b.sound in
       let w = placed-place p (rw e at (s.all_placed (key d h))) in
       let used = counted_use G.records G.handles s.handles_size s.counts (key d h) p (omega (arith, s.handles_size)) e (omega arith) in
       let own = s.owned p.owner p.reference w.0 w.1 (use_pins p.mode (record_at G (place_of p)) used) in
-      subst (λ f. owns F p.owner f ≡ true) (s.told d h p domain handle e).0 own
+      owns_parts F p.owner p.frame (subst (λ f. owns F p.owner f ≡ true) (s.told d h p domain handle e).0 own)
 
   -- each mapping in force was granted
   pub granted : (d h : ℕ) (n : MappingNote) → h < 64 → at a.mappings (key d h) ≡ Some n → Granted a d n
   granted d h n handle e =
       elim (cases_lt d 8) [
         | inl domain ↦
-            let own = (owns_parts F n.mapping.owner n.mapping.frame (frame-owned d h n.mapping domain handle (handle-of F G a b (key d h) n e))).1 in
+            let own = (frame-owned d h n.mapping domain handle (handle-of F G a b (key d h) n e)).1 in
             record {
               named = b.named d h n handle e;
               frame = b.under d h n handle e;
@@ -553,7 +526,7 @@ module _ (F : Frames) (G : Grants) (a : Account) (b : BooksOf F G a) where
       let p = of_frame_is false f (at G.handles k) i.1.1 in
       let w = place_parts k (omega (arith, i.1.0, b.sound.handles_size)) in
       let there : at G.handles (key w.0 w.1) ≡ Some p.0 = ap (λ (j : ℕ). at G.handles j) w.2.1.1 ∙ p.1.0 in
-      let own = (owns_parts F p.0.owner p.0.frame (frame-owned w.0 w.1 p.0 w.2.0 w.2.1.0 there)).1 in
+      let own = (frame-owned w.0 w.1 p.0 w.2.0 w.2.1.0 there).1 in
       let q : None ≡ Some p.0.owner = sym free ∙ ap (λ (g : ℕ). owner_of F g) (sym p.1.1) ∙ own in
       let z : ◌≡◌ {A = ℕ} 0 1 = cc in
       omega arith

@@ -34,7 +34,7 @@ use Rattle.law.specs.Complete.{closed, finished, completed_job, completed}
 use Rattle.law.specs.Account.{Account, ConnectionNote, JobNote, complete_noted, job_answered, mappings_ended, noted_connection, noted_job, with_response}
 use Rattle.law.specs.Keeps.{Writes, Maps, InSlot, under_ticket, handed, Pairing, noted_pairing, host_pairing, Work, noted_work, host_work}
 use Rattle.law.proofs.Inv.{Links, Requests, BayHeld, SegmentMapped, JobHeld, OrderHeld, RequestHeld, no_part}
-use Rattle.law.proofs.Books.{frame-owned, owns_parts, in_force, counted_is}
+use Rattle.law.proofs.Books.{frame-owned, in_force, counted_is}
 use Rattle.law.proofs.Links.{connection-noted, job_noted_too, links_completed}
 use Rattle.law.proofs.Requested.{requests-completed}
 use Rattle.law.proofs.Tickets.{taken_inside, same_some, in_bay_is}
@@ -45,7 +45,7 @@ use Rattle.law.proofs.Marks.{responded_words}
 use Rattle.law.proofs.Bays.{under_done, turn_order}
 use Rattle.law.proofs.Moves.{moved_orders, moves_granted, done_granted, moved_size}
 use Rattle.law.proofs.Cases.{by_either, ok_same}
-use Rattle.law.proofs.Outcomes.{HostInv, page-written, OutcomeGood}
+use Rattle.law.proofs.Outcomes.{HostInv, page-written, page_exists, OutcomeGood}
 use Rattle.law.proofs.Serving.{outcome_same, response_noted, bays_apart}
 
 -- parts of at most 4,096 bytes
@@ -76,7 +76,7 @@ module _ (a : Account) (H : Tables) (m : List ℕ) (i : HostInv a H m) (t : ℕ)
   pub segment-frame : (n : ℕ) (l : n < length (parts_of j)) → (segment n l).mapping.frame < H.frames.count
   segment-frame n l =
       let s = segment n l in
-      (owns_parts H.frames s.mapping.owner s.mapping.frame (frame-owned H.frames H.grants a i.books 0 (get_or j.handles n 0) s.mapping (omega arith) s.below s.there)).0
+      (frame-owned H.frames H.grants a i.books 0 (get_or j.handles n 0) s.mapping (omega arith) s.below s.there).0
 
   pub segment_in : (n : ℕ) (l : n < length (parts_of j)) → PartIn (get_or (parts_of j) n no_part) (segment n l).mapping.frame
   segment_in n l = let s = segment n l in record { offset = s.offset; start = s.start; inside = s.inside }
@@ -213,10 +213,8 @@ module _ {X : Type 0} (D : Rules X) (laws : Laws D) (b : Bay) (a : Account) (H :
 
       page-inside : 4096 * k.page + 4096 ≤ length memory-then
       page-inside =
-          let p = i.links.page j.connection k live in
-          let own = frame-owned H.frames H.grants a i.books 0 k.handle p.mapping (omega arith) p.below p.there in
-          let exists : k.page < H.frames.count = subst (λ f. f < H.frames.count) p.frame (owns_parts H.frames p.mapping.owner p.mapping.frame own).0 in
-          page_there H.frames.count k.page memory-then (moved_size D laws j.direction t (parts_of j) m x ∙ i.memory) exists
+          page_there H.frames.count k.page memory-then (moved_size D laws j.direction t (parts_of j) m x ∙ i.memory)
+          (page_exists a H m i k (i.links.page j.connection k live))
 
       abbrev status : ℤ
       status = D.status device-then note.order

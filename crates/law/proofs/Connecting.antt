@@ -14,7 +14,7 @@ use Rattle.grant.specs.Pin.{released}
 use Rattle.grant.specs.declared.tables.Mapping.{Mapping}
 use Rattle.grant.specs.declared.tables.Mode.TheVariants.{Write}
 use Rattle.grant.specs.declared.fault.GrantFault.{GrantFault}
-use Rattle.grant_law.proofs.Verdicts.{some_value}
+use Rattle.grant_law.proofs.Verdicts.{Accepted, some_value, map_accepted}
 use Rattle.event.specs.Pending.{dropped}
 use Rattle.ring.specs.Page.{fresh_header}
 use Rattle.ring.specs.declared.fault.RingFault.{RingFault}
@@ -33,7 +33,7 @@ use Rattle.law.specs.Step.{proceeds}
 use Rattle.law.specs.Account.{Account, ConnectionNote, accepted, next_handle, mapping_noted, mapping_ended, noted_connection, disconnect_noted}
 use Rattle.law.specs.Keeps.{Pairing}
 use Rattle.law.proofs.Inv.{Inv, Links, Requests, BayHeld}
-use Rattle.law.proofs.Books.{MapAccepted, map-accepted, books_pinned, books_unpinned, owns_parts, next_handle_same}
+use Rattle.law.proofs.Books.{books_pinned, books_unpinned, owns_parts, next_handle_same}
 use Rattle.law.proofs.Released.{released-handles, ended_rest}
 use Rattle.law.proofs.Links.{links_opened, links_closed, connection-noted}
 use Rattle.law.proofs.Requested.{requests_opened, requests-closed}
@@ -65,8 +65,8 @@ module _ {M N : Type 0} (R : Rules M) (S : Rules N) (pick : ℕ → ℕ) (a : Ac
     mapped-ok : map_verdict H.frames H.grants 0 d reference 1 ≡ Ok g
     mapped-ok = passed_ok OfGrant (map_verdict H.frames H.grants 0 d reference 1) g fine.1
 
-    accepted-map : MapAccepted H.frames H.grants 0 d reference 1 g
-    accepted-map = map-accepted H.frames H.grants 0 d reference 1 g (omega arith) i.books.sound.handles_size mapped-ok
+    accepted-map : Accepted H.frames H.grants 0 d reference 1 g
+    accepted-map = map_accepted H.frames H.grants 0 d reference 1 g (omega arith) i.books.sound.handles_size mapped-ok
 
     -- the connection's number, and that it was free
     number : ℕ
@@ -87,7 +87,7 @@ module _ {M N : Type 0} (R : Rules M) (S : Rules N) (pick : ℕ → ℕ) (a : Ac
     handle-same = ap (λ (o : Option ℕ). unwrap_or o 0) (next_handle_same H.frames H.grants a i.books ∙ accepted-map.lowest_is)
 
     page-same : (get_or a.entries (place d reference) blank).frame ≡ g.mapping.frame
-    page-same = sym (ap (λ (p : Mapping). p.frame) accepted-map.mapping ∙ i.books.frame_same (place d reference))
+    page-same = sym (ap (λ (p : Mapping). p.frame) accepted-map.made ∙ i.books.frame_same (place d reference))
 
     note-with : ℕ → ℕ → ConnectionNote
     note-with page h = record { kind = unwrap_or (kind_numbered kind) Block; guest = d; page = page; handle = h; requests = []; answered = [] }
@@ -107,7 +107,7 @@ module _ {M N : Type 0} (R : Rules M) (S : Rules N) (pick : ℕ → ℕ) (a : Ac
       books = books_pinned H.frames H.grants a 0 d reference 1 g (omega arith) mapped-ok i.books;
       links = links_opened H.grants.handles H.rings a.connections a.jobs number (new_connection d kind g) (note-with g.mapping.frame g.handle) g.mapping
           i.books.sound.handles_size number-below was_free accepted-map.handle accepted-map.free refl
-          (ap (λ (p : Mapping). p.mode) accepted-map.mapping) refl (record { consumed = refl; produced = refl }) i.links;
+          (ap (λ (p : Mapping). p.mode) accepted-map.made) refl (record { consumed = refl; produced = refl }) i.links;
       requests = requests_opened H.grants.handles H.rings a.connections a.jobs i.links number (note-with g.mapping.frame g.handle) was_free refl refl i.requests;
       bay0 = i.bay0;
       bay1 = i.bay1;

@@ -45,10 +45,6 @@ guest_unbroken true q f e x z = let y : ◌≡◌ {A = ℕ} 0 1 = cc in omega ar
 guest_unbroken false true f e x z = let y : ◌≡◌ {A = ℕ} 0 1 = cc in omega arith
 guest_unbroken false false f e x z = let y : ◌≡◌ {A = ℕ} 0 1 = cc in omega arith
 
-memory_unbroken : (p : Bool) (f : HostFault) → refuse_first {T = Unit} ((p, BadMemory) ∷ []) (Ok tt) ≡ Err f → Unbroken f
-memory_unbroken true f e x z = let y : ◌≡◌ {A = ℕ} 0 1 = cc in omega arith
-memory_unbroken false f e x z = let y : ◌≡◌ {A = ℕ} 0 1 = cc in omega arith
-
 module _ {M N : Type 0} (R : Rules M) (S : Rules N) (pick : ℕ → ℕ) where
   host-unbroken : (w : World M N) (c : Call) (f : HostFault) → refuse_first {T = Unit} (host_rules R S pick w c) (Ok tt) ≡ Err f → Unbroken f
   host-unbroken w (Take d f) e q = guest_unbroken (wrong_memory w.host w.memory) (eqb d 0 || ltb 7 d) e q
@@ -62,9 +58,9 @@ module _ {M N : Type 0} (R : Rules M) (S : Rules N) (pick : ℕ → ℕ) where
   host-unbroken w (Send d p) e q = guest_unbroken (wrong_memory w.host w.memory) (eqb d 0 || ltb 7 d) e q
   host-unbroken w (Next d) e q = guest_unbroken (wrong_memory w.host w.memory) (ltb 7 d) e q
   host-unbroken w (Connect d k n) e q = guest_unbroken (wrong_memory w.host w.memory) (eqb d 0 || ltb 7 d) e q
-  host-unbroken w (Serve c) e q = memory_unbroken (wrong_memory w.host w.memory) e q
-  host-unbroken w (Complete b) e q = memory_unbroken (wrong_memory w.host w.memory) e q
-  host-unbroken w (Disconnect c) e q = memory_unbroken (wrong_memory w.host w.memory) e q
+  host-unbroken w (Serve c) e q = guest_unbroken (wrong_memory w.host w.memory) false e q
+  host-unbroken w (Complete b) e q = guest_unbroken (wrong_memory w.host w.memory) false e q
+  host-unbroken w (Disconnect c) e q = guest_unbroken (wrong_memory w.host w.memory) false e q
 
   -- a caller that is a guest
   guest : (w : World M N) (d : ℕ) → refuse_first {T = Unit} (guest_rules w.host w.memory d) (Ok tt) ≡ Ok tt → (0 < d) × (d < 8)

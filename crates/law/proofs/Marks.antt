@@ -1,8 +1,8 @@
 -- A domain's marks stay 32 bits, and next answers a port that is marked.
-use Rattle.std.proofs.Common.{◌≡◌, ℕ, ◌-◌, ◌^◌, ◌<◌, ◌≤◌, true, false, eqb, ◌⊎◌, List, length, get_or, set, replicate, sym, ap, ◌∙◌, subst, inl, inr, ⊎_elim, arith}
+use Rattle.std.proofs.Common.{◌≡◌, ℕ, ◌-◌, ◌^◌, ◌<◌, ◌≤◌, true, false, eqb, ◌⊎◌, List, ap, ◌∙◌, inl, inr, ⊎_elim, arith}
 use Rattle.std.proofs.lemmas.Nat.{or_lt, and_le_l, pow_below}
-use Rattle.std.proofs.lemmas.List.{get_or-set_same, get_or-set_other, set_past, get_or-replicate, get_or_past}
-use Rattle.std.proofs.lemmas.Bool.{cases_eq, cases_lt, cases_Bool, eqb-true, eqb-false, cond-true, cond-false, cond_both}
+use Rattle.std.proofs.lemmas.Bool.{cases_lt, cases_Bool, eqb-true, eqb-false, cond-true, cond-false, cond_both}
+use Rattle.grant_law.proofs.Places.{at-replicate, each_set}
 use Rattle.event.specs.Pending.{new_events, word, with_word, bit, marked_word, dropped_word, marked, dropped}
 use Rattle.event.specs.declared.pending.Events.{Events}
 use Rattle.ring.specs.Total.{word_or_zero}
@@ -16,15 +16,7 @@ use Rattle.law.proofs.Inv.{Words}
 
 -- with a word of 32 bits in the place of one, each is of 32 bits
 pub with_word_words : (E : Events) (d w : ℕ) → w < 2 ^ 32 → Words E → Words (with_word d w E)
-with_word_words E d w lt words = λ e.
-    ⊎_elim
-    (λ (here : e ≡ d). subst (λ k. get_or (set E.pending d w) k 0 < 2 ^ 32) (sym here) (
-    ⊎_elim
-    (λ (in_row : d < length E.pending). subst (λ k. k < 2 ^ 32) (sym (get_or-set_same E.pending d w 0 in_row)) lt)
-    (λ (past : length E.pending ≤ d). subst (λ xs. get_or xs d 0 < 2 ^ 32) (sym (set_past E.pending d w past)) (words d))
-    (cases_lt d (length E.pending))))
-    (λ (apart : e ≡ d → ⊥). subst (λ k. k < 2 ^ 32) (sym (get_or-set_other E.pending d e w 0 apart)) (words e))
-    (cases_eq e d)
+with_word_words E d w lt words = each_set (λ v. v < 2 ^ 32) E.pending d w 0 lt words
 
 -- a port more that is pending, or less, leaves 32 bits
 pub marked_words : (E : Events) (d p : ℕ) → p < 32 → Words E → Words (marked d p E)
@@ -39,10 +31,7 @@ dropped_words E d p words =
 -- at the start nothing is pending
 pub words_start : Words new_events
 words_start = λ d.
-    let none : word new_events d ≡ 0 = ⊎_elim
-    (λ (lt : d < 8). get_or-replicate 8 d 0 0 lt)
-    (λ (le : 8 ≤ d). get_or_past (replicate 8 0) d 0 le)
-    (cases_lt d 8) in
+    let none : word new_events d ≡ 0 = at-replicate 8 d 0 in
     omega arith
 
 -- a response leaves 32 bits

@@ -17,7 +17,8 @@ use Rattle.connection.specs.declared.tables.Job.{Job}
 use Rattle.backend.specs.Segments.{mode_for, part_in, with_segment, MappingDone, pin_all}
 use Rattle.law.specs.Account.{Account, mapping_noted, next_handle, spans_noted}
 use Rattle.law.proofs.Inv.{BooksOf, SegmentMapped, no_part}
-use Rattle.law.proofs.Books.{MapAccepted, map-accepted, owns_parts, books_pinned, next_handle_same}
+use Rattle.grant_law.proofs.Verdicts.{Accepted, map_accepted}
+use Rattle.law.proofs.Books.{owns_parts, books_pinned, next_handle_same}
 use Rattle.law.proofs.Cases.{by_either}
 use Rattle.law.proofs.Spans.{no_span}
 
@@ -58,8 +59,8 @@ module _ (F : Frames) (G : Grants) (a : Account) (guest i : ℕ) (j : Job) (s : 
     (books : BooksOf F G a) (count : j.count ≡ i) (few : i < 11) (handles_size : length j.handles ≡ 11) (parts_size : length j.parts ≡ 11)
     (ok : map_verdict F G 0 guest s.reference (mode_for j.direction) ≡ Ok g) where
   -- what the accepted map says
-  yes : MapAccepted F G 0 guest s.reference (mode_for j.direction) g
-  yes = map-accepted F G 0 guest s.reference (mode_for j.direction) g (omega arith) books.sound.handles_size ok
+  yes : Accepted F G 0 guest s.reference (mode_for j.direction) g
+  yes = map_accepted F G 0 guest s.reference (mode_for j.direction) g (omega arith) books.sound.handles_size ok
 
   -- an owned frame is one of the table's, so the place of a byte in it is counted by 32 bits
   frame-below : g.mapping.frame < 256
@@ -148,7 +149,7 @@ module _ (F : Frames) (G : Grants) (a : Account) (guest i : ℕ) (j : Job) (s : 
           offset = s.start;
           start = part-start l;
           inside = l;
-          mode = ap (λ (m : Mapping). m.mode) yes.mapping;
+          mode = ap (λ (m : Mapping). m.mode) yes.made;
         })
 
     -- and so is each behind it

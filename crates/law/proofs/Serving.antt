@@ -48,7 +48,6 @@ use Rattle.law.specs.Serve.{Outcome, answered_now, handed_over, segments_mapped,
 use Rattle.law.specs.Account.{Account, ConnectionNote, JobNote, SpansNoted, next_noted, with_request, with_response, answer_noted, job_noted, serve_noted, spans_noted, noted_connection, noted_job}
 use Rattle.law.specs.Keeps.{Writes, InSlot, nth, responses, handed, Pairing, host_pairing, noted_pairing, Work, host_work, noted_work}
 use Rattle.law.proofs.Inv.{Links, Requests, BayHeld, SegmentMapped, no_part}
-use Rattle.law.proofs.Books.{frame-owned, owns_parts}
 use Rattle.law.proofs.Links.{connection-noted, job-held_too, next_ticket_same, links_answered, links_handed, job_notes_size}
 use Rattle.law.proofs.Requested.{nth_last, requests-answered, requests-handed}
 use Rattle.law.proofs.Tickets.{at_set, taken_inside, same_some, none_some, free_ticket, ticket_range}
@@ -60,7 +59,7 @@ use Rattle.law.proofs.Marks.{responded_words}
 use Rattle.law.proofs.Bays.{under-accepted}
 use Rattle.law.proofs.Cases.{by_either}
 use Rattle.law.proofs.Good.{no_answer, no_response}
-use Rattle.law.proofs.Outcomes.{HostInv, page-written, OutcomeGood}
+use Rattle.law.proofs.Outcomes.{HostInv, page-written, page_exists, OutcomeGood}
 
 -- a response that is noted on the connection c stands in its slot
 pub response_noted : (a : Account) (c : ℕ) (old new : ConnectionNote) (index : ℕ) (k : Connection) (q₀ : Request) (status : ℤ) (m : List ℕ)
@@ -195,11 +194,7 @@ module _ {X : Type 0} (D : Rules X) (laws : Laws D) (b : Bay) (a : Account) (H :
 
     -- the page lies inside the memory
     page-inside : 4096 * k.page + 4096 ≤ length m
-    page-inside =
-        let p = i.links.page c k live in
-        let own = frame-owned H.frames H.grants a i.books 0 k.handle p.mapping (omega arith) p.below p.there in
-        let exists : k.page < H.frames.count = subst (λ f. f < H.frames.count) p.frame (owns_parts H.frames p.mapping.owner p.mapping.frame own).0 in
-        page_there H.frames.count k.page m i.memory exists
+    page-inside = page_there H.frames.count k.page m i.memory (page_exists a H m i k (i.links.page c k live))
 
     -- the request that the account reads is the host's
     pub taken : Request
