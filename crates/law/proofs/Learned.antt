@@ -34,11 +34,11 @@ use Rattle.connection.specs.declared.tables.Job.{Job}
 use Rattle.backend.specs.Look.{look, next_request, event_asked, consumed, consumed_on}
 use Rattle.backend.specs.Move.{moving, moved_memory, moved_device}
 use Rattle.backend.specs.Respond.{responded_memory}
-use Rattle.backend.specs.Segments.{MappingDone, pin_all, released_all, job_for, order_for}
+use Rattle.backend.specs.Segments.{MappingDone, released_all, order_for}
 use Rattle.backend.specs.declared.tables.Tables.{Tables}
 use Rattle.answer.specs.declared.reply.Answer.TheVariants.{Idle, HandedOver, Completed}
 use Rattle.law.specs.World.{with_grants, with_rings}
-use Rattle.law.specs.Serve.{Outcome, responded, answered_now, handed_over, segments_mapped, spent, served_on, served}
+use Rattle.law.specs.Serve.{Outcome, responded, mapping_for, answered_now, handed_over, segments_mapped, spent, served_on, served}
 use Rattle.law.specs.Complete.{closed, broken_off, finished, completed_job, completed}
 use Rattle.law.proofs.Inv.{no_part}
 use Rattle.law.proofs.Tickets.{in_bay_is}
@@ -161,7 +161,7 @@ module _ {X : Type 0} (D : Rules X) (m m' : List ℕ) where
       (λ a. segments_mapped D c k q a H m' x) (λ a. segments_mapped D c k q a H m x)
       (λ f. answered_now D c k q f H m' x) (λ f. answered_now D c k q f H m x)
       (λ a.
-      let p : MappingDone = pin_all H.frames k.guest 0 (job_for c k.kind a) H.grants a.spans in
+      let p : MappingDone = mapping_for c k a H in
       some_alike p.fault (handed_over D c k q a p H m' x) (handed_over D c k q a p H m x)
       (λ f. answered_now D c k q f (with_grants p.grants H) m' x) (λ f. answered_now D c k q f (with_grants p.grants H) m x)
       (handed-alike c k q a p H x)

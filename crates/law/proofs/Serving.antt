@@ -38,13 +38,13 @@ use Rattle.connection.specs.declared.kinds.Bay.TheVariants.{BlockBay, NetBay}
 use Rattle.connection.specs.declared.tables.Connection.{Connection}
 use Rattle.connection.specs.declared.tables.Job.{Job}
 use Rattle.backend.specs.Look.{look, next_request, event_asked, consumed, consumed_on, next_index}
-use Rattle.backend.specs.Segments.{MappingDone, pin_all, released_all, job_for, order_for, mode_for}
+use Rattle.backend.specs.Segments.{MappingDone, released_all, job_for, order_for, mode_for}
 use Rattle.backend.specs.Respond.{responded_memory, responded_rings}
 use Rattle.backend.specs.declared.tables.Tables.{Tables}
 use Rattle.answer.specs.declared.reply.Answer.{Answer}
 use Rattle.answer.specs.declared.reply.Answer.TheVariants.{Idle, HandedOver, AnsweredNow}
 use Rattle.law.specs.World.{with_grants, with_rings}
-use Rattle.law.specs.Serve.{Outcome, answered_now, handed_over, segments_mapped, spent, served_on, served}
+use Rattle.law.specs.Serve.{Outcome, mapping_for, answered_now, handed_over, segments_mapped, spent, served_on, served}
 use Rattle.law.specs.Account.{Account, ConnectionNote, JobNote, SpansNoted, next_noted, with_request, with_response, answer_noted, job_noted, serve_noted, spans_noted, noted_connection, noted_job}
 use Rattle.law.specs.Keeps.{Writes, InSlot, nth, responses, handed, Pairing, host_pairing, noted_pairing, Work, host_work, noted_work}
 use Rattle.law.proofs.Inv.{Links, Requests, BayHeld, SegmentMapped, no_part}
@@ -279,7 +279,7 @@ module _ {X : Type 0} (D : Rules X) (laws : Laws D) (b : Bay) (a : Account) (H :
       fresh-job = job_for c k.kind (asked taken)
 
       abbrev pinned : MappingDone
-      pinned = pin_all H.frames k.guest 0 fresh-job H.grants (spans_of taken)
+      pinned = mapping_for c (consumed k) (asked taken) (with_rings (consumed_on c k H.rings) H)
 
       -- a map was refused
       refused-good : (f : Miss) → pinned.fault ≡ Some f → OutcomeGood D b a H m x (answer_noted c note taken a) (answered_now D c (consumed k) taken f (with_grants pinned.grants (with_rings (consumed_on c k H.rings) H)) m x)
