@@ -1,7 +1,8 @@
 -- complete: nothing that the device is asked is refused, and the outcome is good.
-use Rattle.std.proofs.Common.{◌≡◌, ℕ, suc, ◌+◌, ◌*◌, ◌^◌, ◌<◌, ◌≤◌, true, eqb, List, [], ◌∷◌, length, get_or, set, ℤ, Some, None, Ok, Err, sum_by, Option, Result, sym, refl, ap, ◌∙◌, subst, inl, inr, arith}
+use Rattle.std.proofs.Common.{◌≡◌, ℕ, ◌+◌, ◌*◌, ◌^◌, ◌<◌, ◌≤◌, true, eqb, List, [], ◌∷◌, length, get_or, set, ℤ, Some, None, Ok, Err, sum_by, Option, Result, sym, refl, ap, ◌∙◌, subst, inl, inr, arith}
 use Rattle.std.proofs.lemmas.List.{get_or-set_same, get_or-set_other, get_or-take, length-take-le}
-use Rattle.std.proofs.lemmas.List.Sums.{sum_by-cons}
+use Rattle.std.proofs.lemmas.List.Sums.{sum_by-le}
+use Rattle.std.proofs.lemmas.List.Elements.{All-from_get_or}
 use Rattle.std.proofs.lemmas.Bool.{cases_eq, eqb-true, cond-false}
 use Rattle.abi.specs.declared.page.Kind.{Kind}
 use Rattle.rules.specs.Tables.{at}
@@ -47,14 +48,6 @@ use Rattle.law.proofs.Moves.{moved_orders, moves_granted, done_granted, moved_si
 use Rattle.law.proofs.Cases.{by_either, ok_same}
 use Rattle.law.proofs.Outcomes.{HostInv, page-written, page_exists, OutcomeGood}
 use Rattle.law.proofs.Serving.{outcome_same, response_noted, bays_apart}
-
--- parts of at most 4,096 bytes
-few_bytes : (ps : List Part) → ((i : ℕ) → i < length ps → (get_or ps i no_part).length ≤ 4096) → sum_by (λ (p : Part). p.length) ps ≤ 4096 * length ps
-few_bytes [] h = omega arith
-few_bytes (p ∷ ps) h =
-    let first : p.length ≤ 4096 = h 0 (omega arith) in
-    let rest = few_bytes ps (λ i l. h (suc i) (omega arith)) in
-    omega (arith, sum_by-cons (λ (q : Part). q.length) p ps)
 
 -- each segment of a job lies in a frame that domain 0 has mapped
 module _ (a : Account) (H : Tables) (m : List ℕ) (i : HostInv a H m) (t : ℕ) (j : Job) (there : at H.rings.jobs t ≡ Some j) where
@@ -104,7 +97,8 @@ module _ (a : Account) (H : Tables) (m : List ℕ) (i : HostInv a H m) (t : ℕ)
 
   bytes_below : sum_by (λ (p : Part). p.length) (parts_of j) < 2 ^ 32
   bytes_below =
-      let sum = few_bytes (parts_of j) (λ n l. let s = segment n l in let e : (get_or (parts_of j) n no_part).length ≤ 4096 = omega (arith, s.inside) in e) in
+      let few = All-from_get_or (λ (p : Part). p.length ≤ 4096) (parts_of j) no_part (λ n l. let s = segment n l in let e : (get_or (parts_of j) n no_part).length ≤ 4096 = omega (arith, s.inside) in e) in
+      let sum = sum_by-le (λ (p : Part). p.length) 4096 (parts_of j) few in
       omega (arith, sum, parts-count, job-is-held.few)
 
   -- all of that of one segment: its frame is the memory's, and domain 0 has it mapped
