@@ -27,7 +27,7 @@ use Rattle.ring.specs.declared.fault.RingFault.TheVariants.{Busy, NoJob, NotLive
 use Rattle.request.specs.Check.{miss}
 use Rattle.request.specs.Checked.{check_verdict}
 use Rattle.request.specs.Content.{Asked}
-use Rattle.connection.specs.Tables.{connection_at, job_at, in_bay, parts_of, has_two_jobs, next_ticket, with_job, handles_of}
+use Rattle.connection.specs.Tables.{connection_at, job_at, in_bay, parts_of, has_two_jobs, next_ticket, handles_of}
 use Rattle.connection.specs.declared.kinds.Bay.{Bay}
 use Rattle.connection.specs.declared.tables.Connection.{Connection}
 use Rattle.connection.specs.declared.tables.Job.{Job}
@@ -38,7 +38,7 @@ use Rattle.backend.specs.Segments.{MappingDone, released_all, order_for}
 use Rattle.backend.specs.declared.tables.Tables.{Tables}
 use Rattle.answer.specs.declared.reply.Answer.TheVariants.{Idle, HandedOver, Completed}
 use Rattle.law.specs.World.{with_grants, with_rings}
-use Rattle.law.specs.Serve.{Outcome, responded, mapping_for, answered_now, handed_over, segments_mapped, spent, served_on, served}
+use Rattle.law.specs.Serve.{Outcome, responded, mapping_for, with_handed, answered_now, handed_over, segments_mapped, spent, served_on, served}
 use Rattle.law.specs.Complete.{closed, broken_off, finished, completed_job, completed}
 use Rattle.law.proofs.Inv.{no_part}
 use Rattle.law.proofs.Tickets.{in_bay_is}
@@ -150,7 +150,7 @@ module _ {X : Type 0} (D : Rules X) (m m' : List ℕ) where
   handed-alike : (c : ℕ) (k : Connection) (q : Request) (a : Asked) (p : MappingDone) (H : Tables) (x : X) → Alike (handed_over D c k q a p H m' x) (handed_over D c k q a p H m x)
   handed-alike c k q a p H x =
       let t : ℕ = next_ticket H.rings.jobs c in
-      let done : List ℕ → Outcome X = λ l. record { answer = Ok HandedOver; host = with_rings (with_job t (Some p.job) H.rings) (with_grants p.grants H); memory = l; device = D.with_order x (order_for t a) } in
+      let done : List ℕ → Outcome X = λ l. record { answer = Ok HandedOver; host = with_handed t p H; memory = l; device = D.with_order x (order_for t a) } in
       let undone : DeviceFault → List ℕ → Outcome X = λ e l. answered_now D c k q (miss (OfDevice e) 0) (with_grants (released_all (handles_of p.job) p.grants) H) l x in
       either_alike (accepting D x (order_for t a)) (λ _. done m') (λ _. done m) (λ e. undone e m') (λ e. undone e m) (λ _. (refl, refl)) (λ e. (refl, refl))
 

@@ -44,7 +44,7 @@ use Rattle.backend.specs.declared.tables.Tables.{Tables}
 use Rattle.answer.specs.declared.reply.Answer.{Answer}
 use Rattle.answer.specs.declared.reply.Answer.TheVariants.{Idle, HandedOver, AnsweredNow}
 use Rattle.law.specs.World.{with_grants, with_rings}
-use Rattle.law.specs.Serve.{Outcome, mapping_for, answered_now, handed_over, segments_mapped, spent, served_on, served}
+use Rattle.law.specs.Serve.{Outcome, mapping_for, with_handed, answered_now, handed_over, segments_mapped, spent, served_on, served}
 use Rattle.law.specs.Account.{Account, ConnectionNote, JobNote, SpansNoted, next_noted, with_request, with_response, answer_noted, job_noted, serve_noted, spans_noted, noted_connection, noted_job}
 use Rattle.law.specs.Keeps.{Writes, InSlot, nth, responses, handed, Pairing, host_pairing, noted_pairing, Work, host_work, noted_work}
 use Rattle.law.proofs.Inv.{Links, Requests, BayHeld, SegmentMapped, no_part}
@@ -332,7 +332,7 @@ module _ {X : Type 0} (D : Rules X) (laws : Laws D) (b : Bay) (a : Account) (H :
 
         handed-good : accepting D x (order_for ticket (asked taken)) ≡ Ok tt
             → OutcomeGood D b a H m x (account-then ticket k.guest)
-            (record { answer = Ok HandedOver; host = with_rings (with_job ticket (Some pinned.job) (consumed_on c k H.rings)) (with_grants pinned.grants (with_rings (consumed_on c k H.rings) H)); memory = m; device = D.with_order x (order_for ticket (asked taken)) })
+            (record { answer = Ok HandedOver; host = with_handed ticket pinned (with_rings (consumed_on c k H.rings) H); memory = m; device = D.with_order x (order_for ticket (asked taken)) })
         handed-good accepted =
             let p = both.0 in
             let uses : (h : ℕ) → h < 64 → cond {A = ℕ} (is_some (at pinned.grants.handles (key 0 h))) 1 0 ≡ cond {A = ℕ} (is_some (at H.grants.handles (key 0 h))) 1 0 + count_by (λ y. eqb y h) (handles_of pinned.job) = λ h l. omega (arith, p.uses h l) in

@@ -35,6 +35,10 @@ responded c k after H = with_rings (responded_rings c k H.rings) (with_events (r
 abbrev pub mapping_for : ℕ → Connection → Asked → Tables → MappingDone
 mapping_for c k a H = pin_all H.frames k.guest 0 (job_for c k.kind a) H.grants a.spans
 
+-- the tables where the job that was mapped is in hand, under the ticket t
+abbrev pub with_handed : ℕ → MappingDone → Tables → Tables
+with_handed t p H = with_rings (with_job t (Some p.job) H.rings) (with_grants p.grants H)
+
 module _ {X : Type 0} (D : Rules X) where
   -- the request q of the connection c, which is k, is answered at once
   abbrev pub answered_now : ℕ → Connection → Request → Miss → Tables → List ℕ → X → Outcome X
@@ -49,7 +53,7 @@ module _ {X : Type 0} (D : Rules X) where
       either_of (accepting D x (order_for t a))
       (λ _. record {
         answer = Ok HandedOver;
-        host = with_rings (with_job t (Some p.job) H.rings) (with_grants p.grants H);
+        host = with_handed t p H;
         memory = m;
         device = D.with_order x (order_for t a);
       })
