@@ -9,13 +9,7 @@ use Rattle.device.specs.Meaning.{Rules, serving}
 use Rattle.device.specs.Transfer.{end_of, part_rules, overwritten, handing, filled_parts}
 use Rattle.device.specs.declared.orders.Direction.TheVariants.{Inward}
 use Rattle.device.specs.declared.transfer.Part.{Part}
-use Rattle.law.proofs.Inv.{no_part}
-
--- the part p lies in the frame f
-pub record PartIn (p : Part) (f : ℕ) : Type 0 where
-  pub offset : ℕ
-  pub start : p.start ≡ 4096 * f + offset
-  pub inside : offset + p.length ≤ 4096
+use Rattle.law.proofs.Inv.{PartIn, no_part}
 
 -- bytes over a part of the memory are placed there
 pub overwritten_is : (p : Part) (ys m : List ℕ) → length ys ≡ p.length → overwritten p ys m ≡ placed p.start ys m

@@ -34,14 +34,14 @@ use Rattle.law.specs.Serve.{Outcome, responded}
 use Rattle.law.specs.Complete.{closed, finished, completed_job, completed}
 use Rattle.law.specs.Account.{Account, ConnectionNote, JobNote, complete_noted, job_answered, mappings_ended, noted_connection, noted_job, with_response}
 use Rattle.law.specs.Keeps.{Writes, Maps, InSlot, under_ticket, handed, Pairing, noted_pairing, host_pairing, Work, noted_work, host_work}
-use Rattle.law.proofs.Inv.{Links, Requests, BayHeld, SegmentMapped, JobHeld, OrderHeld, RequestHeld, no_part}
+use Rattle.law.proofs.Inv.{Links, Requests, BayHeld, PartIn, SegmentMapped, JobHeld, OrderHeld, RequestHeld, no_part}
 use Rattle.law.proofs.Books.{frame-owned, in_force, counted_is}
 use Rattle.law.proofs.Links.{connection-noted, job_noted_too, links_completed}
 use Rattle.law.proofs.Requested.{requests-completed}
 use Rattle.law.proofs.Tickets.{taken_inside, same_some, in_bay_is}
 use Rattle.law.proofs.Released.{AllReleased, segments_released, uncounted}
 use Rattle.law.proofs.Bytes.{page_there, responded-size, responded-others}
-use Rattle.law.proofs.Altered.{PartIn, filled-others}
+use Rattle.law.proofs.Altered.{filled-others}
 use Rattle.law.proofs.Marks.{responded_words}
 use Rattle.law.proofs.Bays.{under_done, turn_order}
 use Rattle.law.proofs.Moves.{moved_orders, moves_granted, done_granted, moved_size}
@@ -72,7 +72,7 @@ module _ (a : Account) (H : Tables) (m : List ℕ) (i : HostInv a H m) (t : ℕ)
       (frame-owned H.frames H.grants a i.books 0 (get_or j.handles n 0) s.mapping (omega arith) s.below s.there).0
 
   pub segment_in : (n : ℕ) (l : n < length (parts_of j)) → PartIn (get_or (parts_of j) n no_part) (segment n l).mapping.frame
-  segment_in n l = let s = segment n l in record { offset = s.offset; start = s.start; inside = s.inside }
+  segment_in n l = (segment n l).lies
 
   -- domain 0 has it mapped, by the account
   pub segment-maps : (n : ℕ) (l : n < length (parts_of j)) → Maps a 0 (segment n l).mapping.frame
@@ -93,11 +93,11 @@ module _ (a : Account) (H : Tables) (m : List ℕ) (i : HostInv a H m) (t : ℕ)
   inside-memory n l =
       let s = segment n l in
       let page = page_there H.frames.count s.mapping.frame m i.memory (segment-frame n l) in
-      omega (arith, s.start, s.inside)
+      omega (arith, s.lies.start, s.lies.inside)
 
   bytes_below : sum_by (λ (p : Part). p.length) (parts_of j) < 2 ^ 32
   bytes_below =
-      let few = All-from_get_or (λ (p : Part). p.length ≤ 4096) (parts_of j) no_part (λ n l. let s = segment n l in let e : (get_or (parts_of j) n no_part).length ≤ 4096 = omega (arith, s.inside) in e) in
+      let few = All-from_get_or (λ (p : Part). p.length ≤ 4096) (parts_of j) no_part (λ n l. let s = segment n l in let e : (get_or (parts_of j) n no_part).length ≤ 4096 = omega (arith, s.lies.inside) in e) in
       let sum = sum_by-le (λ (p : Part). p.length) 4096 (parts_of j) few in
       omega (arith, sum, parts-count, job-is-held.few)
 

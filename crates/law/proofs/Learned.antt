@@ -40,9 +40,8 @@ use Rattle.answer.specs.declared.reply.Answer.TheVariants.{Idle, HandedOver, Com
 use Rattle.law.specs.World.{with_grants, with_rings}
 use Rattle.law.specs.Serve.{Outcome, responded, mapping_for, with_handed, answered_now, handed_over, segments_mapped, spent, served_on, served}
 use Rattle.law.specs.Complete.{closed, broken_off, finished, completed_job, completed}
-use Rattle.law.proofs.Inv.{no_part}
+use Rattle.law.proofs.Inv.{PartIn, no_part}
 use Rattle.law.proofs.Tickets.{in_bay_is}
-use Rattle.law.proofs.Altered.{PartIn}
 
 -- bytes of a frame, out of the frame's bytes
 in_frame : (m : List ℕ) (f offset n : ℕ) → offset + n ≤ 4096 → drop offset (take (offset + n) (frame_bytes f m)) ≡ bytes_at (4096 * f + offset) n m

@@ -30,9 +30,8 @@ use Rattle.law.specs.Connect.{connect_verdict, new_number, connected, connected_
 use Rattle.law.specs.Step.{Ends, step, proceeds, by_verdict, send_rules, next_port, host_rules, told, passed_up, served_in, completed_in, serving_bay, bay_rules, bay_numbered}
 use Rattle.law.specs.Account.{Account}
 use Rattle.law.specs.Keeps.{Owns, Maps}
-use Rattle.law.proofs.Inv.{Inv, no_part}
+use Rattle.law.proofs.Inv.{Inv, PartIn, no_part}
 use Rattle.law.proofs.Books.{owns_parts, maps_from}
-use Rattle.law.proofs.Altered.{PartIn}
 use Rattle.law.proofs.Learned.{bytes_from-frame, served_learns, completed_learns}
 use Rattle.law.proofs.Good.{Learns}
 use Rattle.law.proofs.Outcomes.{host_inv, page-written, page_exists}

@@ -92,7 +92,7 @@ page_kept hs hs' k same m = record { mapping = m.mapping; below = m.below; there
 
 segment_kept : (hs hs' : List (Option Mapping)) (way : Direction) (h : ℕ) (p : Part) → (h < 64 → at hs' (key 0 h) ≡ at hs (key 0 h)) → SegmentMapped hs way h p → SegmentMapped hs' way h p
 segment_kept hs hs' way h p same m =
-    record { mapping = m.mapping; below = m.below; there = same m.below ∙ m.there; offset = m.offset; start = m.start; inside = m.inside; mode = m.mode }
+    record { mapping = m.mapping; below = m.below; there = same m.below ∙ m.there; lies = m.lies; mode = m.mode }
 
 job_kept : (hs hs' : List (Option Mapping)) (C C' : Rings) (t : ℕ) (j : Job) (k : Connection) → at C'.connections j.connection ≡ Some k → k.kind ≡ j.kind
     → ((i : ℕ) → i < j.count → get_or j.handles i 0 < 64 → at hs' (key 0 (get_or j.handles i 0)) ≡ at hs (key 0 (get_or j.handles i 0)))

@@ -146,9 +146,7 @@ module _ (F : Frames) (G : Grants) (a : Account) (guest i : ℕ) (j : Job) (s : 
           mapping = g.mapping;
           below = yes.handle;
           there = r.kept (key 0 g.handle) g.mapping there;
-          offset = s.start;
-          start = part-start l;
-          inside = l;
+          lies = record { offset = s.start; start = part-start l; inside = l };
           mode = ap (λ (m : Mapping). m.mode) yes.made;
         })
 
