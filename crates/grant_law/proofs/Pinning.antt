@@ -1,5 +1,5 @@
 -- A map that is accepted leaves the tables sound.
-use Rattle.std.proofs.Common.{◌≡◌, ℕ, ◌+◌, ◌<◌, Bool, true, false, cond, ◌&&◌, eqb, length, Some, None, count_by, Option, sym, refl, ap, ◌∙◌, subst, inl, inr, arith}
+use Rattle.std.proofs.Common.{◌≡◌, ℕ, ◌+◌, ◌<◌, Bool, true, false, cond, ◌&&◌, eqb, length, Some, None, count_by, sym, refl, ap, ◌∙◌, subst, inl, inr, arith}
 use Rattle.std.proofs.lemmas.List.{length-set, get_or-set_same, get_or-set_other}
 use Rattle.std.proofs.lemmas.List.Sums.{sum_by-set}
 use Rattle.std.proofs.lemmas.Bool.{cases_eq, lt-ltb, and_from}
@@ -13,7 +13,7 @@ use Rattle.grant.specs.declared.tables.Record.{Record}
 use Rattle.grant.specs.declared.tables.Mapping.{Mapping}
 use Rattle.grant.specs.declared.tables.Grants.{Grants}
 use Rattle.grant_law.specs.Sound.{Sound, place_of, placed}
-use Rattle.grant_law.proofs.Places.{each_set}
+use Rattle.grant_law.proofs.Places.{each_set, counted_more}
 use Rattle.grant_law.proofs.Counting.{counted_bound, counted_use, counted-pin, placed-place, use_pins}
 use Rattle.grant_law.proofs.Weights.{added-weight, added-told}
 
@@ -93,15 +93,13 @@ module _ (F : Frames) (G : Grants) (d h : ℕ) (p : Mapping) (s : Sound F G)
       let r' = added p.mode (recorded p.frame d r) in
       let bound = counted_bound G.records G.handles s.handles_size s.counts p.mode (place_of p) place-below in
       let heavier = added-weight p.mode p.frame d f r bound (λ u. (same (some_use r u)).1) in
-      let old : ◌≡◌ {A = ℕ} (cond (of_frame false f (at G.handles (key d h))) 1 0) 0 = ap (λ (x : Option Mapping). cond {A = ℕ} (of_frame false f x) 1 0) free in
       let new : ◌≡◌ {A = ℕ} (cond (of_frame false f (Some p)) 1 0) (cond (eqb p.frame f) 1 0) = ap (λ (b : Bool). cond {A = ℕ} b 1 0) (and_true (eqb p.frame f)) in
       omega (
         arith,
         sum_by-set (weight f) G.records (place_of p) r' fresh place_inside,
         heavier,
         s.frame_pins f,
-        sum_by-set (λ x. cond {A = ℕ} (of_frame false f x) 1 0) G.handles (key d h) (Some p) None key-inside,
-        old,
+        counted_more (of_frame false f) G.handles (key d h) p refl key-inside free,
         new,
       )
 

@@ -1,5 +1,5 @@
 -- A handle that is freed leaves the tables sound.
-use Rattle.std.proofs.Common.{◌≡◌, ℕ, ◌^◌, ◌<◌, Bool, true, false, cond, eqb, length, Some, None, count_by, Option, sym, refl, ap, ◌∙◌, subst, inl, inr, arith}
+use Rattle.std.proofs.Common.{◌≡◌, ℕ, ◌^◌, ◌<◌, Bool, true, false, cond, eqb, length, Some, None, count_by, sym, refl, ap, ◌∙◌, subst, inl, inr, arith}
 use Rattle.std.proofs.lemmas.List.{length-set, get_or-set_same, get_or-set_other}
 use Rattle.std.proofs.lemmas.List.Sums.{sum_by-set}
 use Rattle.std.proofs.lemmas.Bool.{cases_eq, lt-ltb}
@@ -15,7 +15,7 @@ use Rattle.grant_law.proofs.Counting.{counted_bound, counted_use, counted-unpin,
 use Rattle.grant_law.proofs.Weights.{removed-weight, removed-told}
 use Rattle.grant_law.proofs.Verdicts.{in_use_is}
 use Rattle.grant_law.proofs.Pinning.{and_true}
-use Rattle.grant_law.proofs.Places.{each_set, stood_before, by_some}
+use Rattle.grant_law.proofs.Places.{each_set, stood_before, by_some, counted_less}
 
 -- the mapping p is in use under the handle h of the domain d
 module _ (F : Frames) (G : Grants) (d h : ℕ) (p : Mapping) (s : Sound F G)
@@ -64,14 +64,13 @@ module _ (F : Frames) (G : Grants) (d h : ℕ) (p : Mapping) (s : Sound F G)
       let lighter = removed-weight p.mode f r used bound in
       let told = (s.told d h p domain handle here).0 in
       let frame : ◌≡◌ {A = ℕ} (cond (eqb r.frame f) 1 0) (cond (eqb p.frame f) 1 0) = ap (λ g. cond {A = ℕ} (eqb g f) 1 0) told in
-      let old : ◌≡◌ {A = ℕ} (cond (of_frame false f (at G.handles (key d h))) 1 0) (cond (eqb p.frame f) 1 0) =
-      ap (λ (x : Option Mapping). cond {A = ℕ} (of_frame false f x) 1 0) here ∙ ap (λ (b : Bool). cond {A = ℕ} b 1 0) (and_true (eqb p.frame f)) in
+      let old : ◌≡◌ {A = ℕ} (cond (of_frame false f (Some p)) 1 0) (cond (eqb p.frame f) 1 0) = ap (λ (b : Bool). cond {A = ℕ} b 1 0) (and_true (eqb p.frame f)) in
       omega (
         arith,
         sum_by-set (weight f) G.records (place_of p) (removed p.mode r) fresh place_inside,
         lighter,
         s.frame_pins f,
-        sum_by-set (λ x. cond {A = ℕ} (of_frame false f x) 1 0) G.handles (key d h) None None key-inside,
+        counted_less (of_frame false f) G.handles (key d h) p refl key-inside here,
         old,
         frame,
       )

@@ -7,7 +7,7 @@ use Rattle.std.specs.Option.{option_map}
 use Rattle.std.proofs.lemmas.Nat.{and_mod, and_mask, or_mod, or_comm}
 use Rattle.std.proofs.lemmas.List.Edits.{get_or-between}
 use Rattle.std.proofs.lemmas.List.{length-set, length-map, length-take, get_or-set_same, get_or-set_other, get_or_past, set_past, map-set, take-map, drop-map}
-use Rattle.std.proofs.lemmas.List.Sums.{sum_by-cons, sum_by-set}
+use Rattle.std.proofs.lemmas.List.Sums.{sum_by-cons}
 use Rattle.std.proofs.lemmas.List.Folds.{sum_by-replicate}
 use Rattle.std.proofs.lemmas.Bool.{cases_eq, cases_lt, eq-eqb, ne_eqb, ltb-true, le-ltb, cond-false, eqb-true, and_parts, or_cases, cases_Bool, both_ways}
 use Rattle.abi.specs.declared.entry.GrantEntry.{GrantEntry}
@@ -30,7 +30,7 @@ use Rattle.grant_law.specs.Sound.{Sound, place_of}
 use Rattle.grant_law.proofs.Counting.{placed-place, counted_use, use_pins}
 use Rattle.grant_law.proofs.Pinning.{and_true}
 use Rattle.grant_law.proofs.Steps.{stays_sound}
-use Rattle.grant_law.proofs.Places.{at-replicate, stood_before}
+use Rattle.grant_law.proofs.Places.{at-replicate, stood_before, counted_more, counted_less}
 use Rattle.grant_law.proofs.Unpinning.{unpin-is, after-sound}
 use Rattle.grant_law.proofs.Verdicts.{Accepted, map_accepted, in_use_is}
 use Rattle.law.specs.World.{new_host}
@@ -219,20 +219,6 @@ counted-up g f xs b =
       | inr n ↦ rw (get_or-set_other xs g f (get_or xs g 0 + 1) 0 n, ne_eqb g f (λ e. n (sym e))) (omega arith)
     ]
 
--- a note more on its frame, where there was none
-note_more : (f k : ℕ) (n : MappingNote) (ms : List (Option MappingNote)) → k < length ms → at ms k ≡ None
-    → count_by (on_frame f) (set ms k (Some n)) ≡ count_by (on_frame f) ms + cond (eqb n.mapping.frame f) 1 0
-note_more f k n ms b e =
-    let old : ◌≡◌ {A = ℕ} (cond (on_frame f (at ms k)) 1 0) 0 = ap (λ (x : Option MappingNote). cond {A = ℕ} (on_frame f x) 1 0) e in
-    omega (arith, old, sum_by-set (λ x. cond {A = ℕ} (on_frame f x) 1 0) ms k (Some n) None b)
-
--- and one less, where there was one
-note_less : (f k : ℕ) (n : MappingNote) (ms : List (Option MappingNote)) → k < length ms → at ms k ≡ Some n
-    → count_by (on_frame f) (set ms k None) + cond (eqb n.mapping.frame f) 1 0 ≡ count_by (on_frame f) ms
-note_less f k n ms b e =
-    let old : ◌≡◌ {A = ℕ} (cond (on_frame f (at ms k)) 1 0) (cond (eqb n.mapping.frame f) 1 0) = ap (λ (x : Option MappingNote). cond {A = ℕ} (on_frame f x) 1 0) e in
-    omega (arith, old, sum_by-set (λ x. cond {A = ℕ} (on_frame f x) 1 0) ms k None None b)
-
 -- an accepted map is noted
 module _ (F : Frames) (G : Grants) (a : Account) (d o n md : ℕ) (g : Grant)
     (domain : d < 8) (verdict : map_verdict F G d o n md ≡ Ok g) (b : BooksOf F G a) where
@@ -308,7 +294,7 @@ module _ (F : Frames) (G : Grants) (a : Account) (d o n md : ℕ) (g : Grant)
           arith,
           b.counted f l,
           counted-up the-entry.frame f a.maps (omega (arith, b.maps-size)),
-          note_more f (key d g.handle) the-note a.mappings the-key (no_note F G a b (key d g.handle) map-says.free),
+          counted_more (on_frame f) a.mappings (key d g.handle) the-note refl the-key (no_note F G a b (key d g.handle) map-says.free),
         );
       }
 
@@ -358,7 +344,7 @@ module _ (F : Frames) (G : Grants) (a : Account) (d h : ℕ) (m : MappingNote) (
           arith,
           b.counted f l,
           counted-up the-mapping.frame f a.unmaps (omega (arith, b.unmaps-size)),
-          note_less f (key d h) m a.mappings key-inside noted,
+          counted_less (on_frame f) a.mappings (key d h) m refl key-inside noted,
         );
       }
 

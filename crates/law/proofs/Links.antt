@@ -23,7 +23,7 @@ use Rattle.grant_law.proofs.Places.{at-replicate}
 use Rattle.law.specs.Account.{ConnectionNote, JobNote, with_request, with_response}
 use Rattle.law.specs.Keeps.{Pairing, host_pairing, noted_pairing, host_work, noted_work, Counted}
 use Rattle.law.proofs.Inv.{Links, PageMapped, SegmentMapped, JobHeld, ring_has, segments_with, handle_uses, no_part}
-use Rattle.law.proofs.Tickets.{none_some, same_some, taken_inside, at_set, set_taken, mapped_too, same_places, same_some_ness, same_set, two_in_sum, free_ticket, ticket_range}
+use Rattle.law.proofs.Tickets.{none_some, free_or_taken, same_some, taken_inside, at_set, set_taken, mapped_too, same_places, same_some_ness, same_set, two_in_sum, free_ticket, ticket_range}
 
 -- the host's tables and the account's are taken or free at the same places
 module _ (hs : List (Option Mapping)) (C : Rings) (conns : List (Option ConnectionNote)) (jobs : List (Option JobNote)) (L : Links hs C conns jobs) where
@@ -45,6 +45,14 @@ module _ (hs : List (Option Mapping)) (C : Rings) (conns : List (Option Connecti
   -- the account's table of jobs is as long as the host's
   pub job_notes_size : length jobs ≡ 12
   job_notes_size = sym (length-map jobs (option_map noted_work)) ∙ sym (ap length L.jobs_same) ∙ length-map C.jobs (option_map host_work) ∙ L.jobs-size
+
+  -- it is free where the host's is
+  pub note_free : (t : ℕ) → at C.jobs t ≡ None → at jobs t ≡ None
+  note_free t e = elim (free_or_taken (at jobs t)) [ inl f ↦ f | inr w ↦ let h = job-held_too t w.0 w.1 in none_some (at C.jobs t) h.0 e h.1.0 ]
+
+  -- and a connection's next ticket lies inside it
+  pub ticket_inside : (c : ℕ) → c < 6 → next_ticket C.jobs c < length jobs
+  ticket_inside c l = omega (arith, job_notes_size, (ticket_range C.jobs c).1)
 
   -- what ring k or a segment of job j has for a handle counts as a use of it
   ring-one : (k : Connection) (h : ℕ) → k.handle ≡ h → ◌≡◌ {A = ℕ} (cond (ring_has h (Some k)) 1 0) 1

@@ -48,9 +48,9 @@ use Rattle.law.specs.Serve.{Outcome, mapping_for, with_handed, answered_now, han
 use Rattle.law.specs.Account.{Account, ConnectionNote, JobNote, SpansNoted, next_noted, with_request, with_response, answer_noted, job_noted, serve_noted, spans_noted, noted_connection, noted_job}
 use Rattle.law.specs.Keeps.{Writes, InSlot, nth, responses, handed, Pairing, host_pairing, noted_pairing, Work, host_work, noted_work}
 use Rattle.law.proofs.Inv.{Links, Requests, BayHeld, SegmentMapped, no_part}
-use Rattle.law.proofs.Links.{connection-noted, job-held_too, next_ticket_same, links_answered, links_handed, job_notes_size}
+use Rattle.law.proofs.Links.{connection-noted, note_free, ticket_inside, next_ticket_same, links_answered, links_handed}
 use Rattle.law.proofs.Requested.{nth_last, requests-answered, requests-handed}
-use Rattle.law.proofs.Tickets.{at_set, taken_inside, same_some, none_some, free_ticket, ticket_range}
+use Rattle.law.proofs.Tickets.{at_set, taken_inside, same_some, free_ticket}
 use Rattle.law.proofs.Segments.{AllPinned, segments_pinned}
 use Rattle.law.proofs.Undoing.{Undone, segments_refused, segments_undone}
 use Rattle.law.proofs.Spans.{no_span, checked-spans}
@@ -316,16 +316,10 @@ module _ {X : Type 0} (D : Rules X) (laws : Laws D) (b : Bay) (a : Account) (H :
         ticket_free = free_ticket H.rings.jobs c few-jobs
 
         note-free : at a.jobs ticket ≡ None
-        note-free = by (at a.jobs ticket) refl
-          where
-            by : (o : Option JobNote) → at a.jobs ticket ≡ o → at a.jobs ticket ≡ None
-            by None e = e
-            by (Some y) e =
-                let j = job-held_too H.grants.handles H.rings a.connections a.jobs i.links ticket y e in
-                none_some (at H.rings.jobs ticket) j.0 ticket_free j.1.0
+        note-free = note_free H.grants.handles H.rings a.connections a.jobs i.links ticket ticket_free
 
         ticket-below : ticket < length a.jobs
-        ticket-below = omega (arith, ticket_range H.rings.jobs c, below, job_notes_size H.grants.handles H.rings a.connections a.jobs i.links)
+        ticket-below = ticket_inside H.grants.handles H.rings a.connections a.jobs i.links c below
 
         work-same : host_work pinned.job ≡ noted_work (job-note ticket k.guest)
         work-same = work_is _ _ _ _ _ _ _ _ both.0.connection (both.0.kind ∙ sym kind-same) both.0.id (sym both.1)
