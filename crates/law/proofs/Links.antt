@@ -19,7 +19,7 @@ use Rattle.connection.specs.declared.tables.Job.{Job}
 use Rattle.connection.specs.declared.tables.Rings.{Rings}
 use Rattle.backend.specs.Look.{consumed, consumed_on, next_index}
 use Rattle.backend.specs.Respond.{responded_rings}
-use Rattle.grant_law.proofs.Places.{at-replicate}
+use Rattle.grant_law.proofs.Places.{at-replicate, counted_more, counted_less}
 use Rattle.law.specs.Account.{ConnectionNote, JobNote, with_request, with_response}
 use Rattle.law.specs.Keeps.{Pairing, host_pairing, noted_pairing, host_work, noted_work, Counted}
 use Rattle.law.proofs.Inv.{Links, PageMapped, SegmentMapped, JobHeld, ring_has, segments_with, handle_uses, no_part}
@@ -163,8 +163,7 @@ module _ (hs : List (Option Mapping)) (C : Rings) (conns : List (Option Connecti
   -- each handle in use is used once
   opened-own : (h : ℕ) → h < 64 → handle_uses (with_connection c (Some k) C) h ≡ cond (is_some (at opened (key 0 h))) 1 0
   opened-own h l =
-      let s = sum_by-set (λ x. cond {A = ℕ} (ring_has h x) 1 0) C.connections c (Some k) None (omega (arith, L.connections-size)) in
-      let old : ◌≡◌ {A = ℕ} (cond (ring_has h (at C.connections c)) 1 0) 0 = rw free in
+      let s = counted_more (ring_has h) C.connections c k refl (omega (arith, L.connections-size)) free in
       elim (cases_eq h k.handle) [
         | inl q ↦
             let inside : key 0 k.handle < length hs = omega arith in
@@ -246,18 +245,18 @@ module _ (hs : List (Option Mapping)) (C : Rings) (conns : List (Option Connecti
   -- each handle in use is used once
   closed-own : (h : ℕ) → h < 64 → handle_uses (with_connection c None C) h ≡ cond (is_some (at closed (key 0 h))) 1 0
   closed-own h l =
-      let s = sum_by-set (λ x. cond {A = ℕ} (ring_has h x) 1 0) C.connections c None None (taken_inside C.connections c k live) in
+      let s = counted_less (ring_has h) C.connections c k refl (taken_inside C.connections c k live) live in
       let g = L.page c k live in
       let below = g.below in
       elim (cases_eq h k.handle) [
         | inl q ↦
             let inside : key 0 k.handle < length hs = omega arith in
-            let old : ◌≡◌ {A = ℕ} (cond (ring_has h (at C.connections c)) 1 0) 1 = rw (live, eq-eqb k.handle h (sym q)) in
+            let old : ◌≡◌ {A = ℕ} (cond (ring_has h (Some k)) 1 0) 1 = rw (eq-eqb k.handle h (sym q)) in
             let was : ◌≡◌ {A = ℕ} (cond (is_some (at hs (key 0 h))) 1 0) 1 = rw (q, g.there) in
             let now : at (set hs (key 0 k.handle) None) (key 0 h) ≡ None = rw q (get_or-set_same hs (key 0 k.handle) None None inside) in
             rw now (omega (arith, L.own h l))
         | inr d ↦
-            let old : ◌≡◌ {A = ℕ} (cond (ring_has h (at C.connections c)) 1 0) 0 = rw (live, ne_eqb k.handle h (λ e. d (sym e))) in
+            let old : ◌≡◌ {A = ℕ} (cond (ring_has h (Some k)) 1 0) 0 = rw (ne_eqb k.handle h (λ e. d (sym e))) in
             rw (closed-kept h d) (omega (arith, L.own h l))
       ]
 
