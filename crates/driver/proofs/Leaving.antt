@@ -1,7 +1,5 @@
 -- What a back end leaves, by the way that it went.
-use Rattle.std.proofs.Common.{◌≡◌, ℕ, ◌<◌, Bool, true, false, cond, ◌||◌, eqb, List, [], ◌∷◌, length, is_none, get_or, Some, None, Ok, Err, Option, Result, sym, refl, ap, ◌∙◌, subst, ap₂, inl, inr, arith}
-use Rattle.std.proofs.lemmas.List.{get_or_past}
-use Rattle.std.proofs.lemmas.Bool.{cases_lt}
+use Rattle.std.proofs.Common.{◌≡◌, ℕ, Bool, true, false, cond, ◌||◌, eqb, List, [], ◌∷◌, is_none, Some, None, Ok, Err, Option, Result, sym, refl, ap, ◌∙◌, subst, ap₂, arith}
 use Rattle.rules.specs.Refusal.{refuse_first, and_then, if_some, granting, either_of}
 use Rattle.device.specs.Meaning.{Rules, is_full}
 use Rattle.ring.specs.Fault.{status_of}
@@ -62,11 +60,6 @@ pub found_none : (o : Option ℕ) (ahead : Result ℕ RingFault)
     → Ok None ≡ given o (and_then ahead (λ n. counted (is_none o) (eqb n 0))) → and_then ahead (λ n. counted (is_none o) (eqb n 0)) ≡ Ok false
 found_none o (Ok n) e = none_counted o (eqb n 0) e
 found_none o (Err f) e = absurd (let z : ◌≡◌ {A = ℕ} 0 1 = cc in omega arith)
-
--- what stands in a table stands within it
-pub within_some : {X : Type 0} (xs : List (Option X)) (k : ℕ) (x : X) → get_or xs k None ≡ Some x → k < length xs
-within_some xs k x e =
-    elim (cases_lt k (length xs)) [ inl h ↦ h | inr h ↦ absurd (let past = get_or_past xs k None h in let z : ◌≡◌ {A = ℕ} 0 1 = cc in omega arith) ]
 
 module _ {X : Type 0} where
   pub leaves_by : (o o' : Outcome X) (r : Result Answer RingFault) (H : Tables) (m : List ℕ) (x : X) → o ≡ o' → Leaves o' r H m x → Leaves o r H m x

@@ -1,5 +1,5 @@
 -- A map that is accepted leaves the tables sound.
-use Rattle.std.proofs.Common.{◌≡◌, ℕ, ◌+◌, ◌<◌, Bool, true, false, cond, ◌&&◌, eqb, length, Some, None, count_by, Option, sym, refl, ap, ◌∙◌, subst, inl, inr, arith}
+use Rattle.std.proofs.Common.{◌≡◌, ℕ, ◌+◌, ◌<◌, Bool, true, false, cond, ◌&&◌, eqb, length, Some, None, count_by, sym, refl, ap, ◌∙◌, subst, inl, inr, arith}
 use Rattle.std.proofs.lemmas.List.{length-set, get_or-set_same, get_or-set_other}
 use Rattle.std.proofs.lemmas.List.Sums.{sum_by-set}
 use Rattle.std.proofs.lemmas.Bool.{cases_eq, lt-ltb, and_from}
@@ -13,6 +13,7 @@ use Rattle.grant.specs.declared.tables.Record.{Record}
 use Rattle.grant.specs.declared.tables.Mapping.{Mapping}
 use Rattle.grant.specs.declared.tables.Grants.{Grants}
 use Rattle.grant_law.specs.Sound.{Sound, place_of, placed}
+use Rattle.grant_law.proofs.Places.{each_set, counted_more}
 use Rattle.grant_law.proofs.Counting.{counted_bound, counted_use, counted-pin, placed-place, use_pins}
 use Rattle.grant_law.proofs.Weights.{added-weight, added-told}
 
@@ -45,14 +46,6 @@ module _ (F : Frames) (G : Grants) (d h : ℕ) (p : Mapping) (s : Sound F G)
       let inside = place_inside in
       let g : record_at (pin d h p G) i ≡ added p.mode (recorded p.frame d (record_at G (place_of p))) = rw (e, get_or-set_same) in
       rw g (added-told p.mode p.frame d (record_at G (place_of p)))
-
-  pin-placed : (k : ℕ) → placed (at (pin d h p G).handles k) ≡ true
-  pin-placed k =
-      let inside = key-inside in
-      elim (cases_eq k (key d h)) [
-        | inl e ↦ rw (e, get_or-set_same) (and_from _ _ (lt-ltb p.owner 8 owner) (lt-ltb p.reference 32 reference))
-        | inr n ↦ rw get_or-set_other (s.all_placed k)
-      ]
 
   pin-told : (d' h' : ℕ) (q : Mapping) → d' < 8 → h' < 64 → at (pin d h p G).handles (key d' h') ≡ Some q
       → ((record_at (pin d h p G) (place_of q)).frame ≡ q.frame) × ((record_at (pin d h p G) (place_of q)).mapper ≡ d')
@@ -100,15 +93,13 @@ module _ (F : Frames) (G : Grants) (d h : ℕ) (p : Mapping) (s : Sound F G)
       let r' = added p.mode (recorded p.frame d r) in
       let bound = counted_bound G.records G.handles s.handles_size s.counts p.mode (place_of p) place-below in
       let heavier = added-weight p.mode p.frame d f r bound (λ u. (same (some_use r u)).1) in
-      let old : ◌≡◌ {A = ℕ} (cond (of_frame false f (at G.handles (key d h))) 1 0) 0 = ap (λ (x : Option Mapping). cond {A = ℕ} (of_frame false f x) 1 0) free in
       let new : ◌≡◌ {A = ℕ} (cond (of_frame false f (Some p)) 1 0) (cond (eqb p.frame f) 1 0) = ap (λ (b : Bool). cond {A = ℕ} b 1 0) (and_true (eqb p.frame f)) in
       omega (
         arith,
         sum_by-set (weight f) G.records (place_of p) r' fresh place_inside,
         heavier,
         s.frame_pins f,
-        sum_by-set (λ x. cond {A = ℕ} (of_frame false f x) 1 0) G.handles (key d h) (Some p) None key-inside,
-        old,
+        counted_more (of_frame false f) G.handles (key d h) p refl key-inside free,
         new,
       )
 
@@ -118,7 +109,7 @@ module _ (F : Frames) (G : Grants) (d h : ℕ) (p : Mapping) (s : Sound F G)
     entries_size = length-set G.entries (place_of p) _ ∙ s.entries_size;
     records_size = length-set G.records (place_of p) _ ∙ s.records_size;
     handles_size = length-set G.handles (key d h) _ ∙ s.handles_size;
-    all_placed = pin-placed;
+    all_placed = each_set (λ k o. placed o ≡ true) G.handles (key d h) (Some p) None (and_from _ _ (lt-ltb p.owner 8 owner) (lt-ltb p.reference 32 reference)) s.all_placed;
     counts = counted-pin G.records G.handles s.handles_size s.counts (key d h) p d key-inside free s.records_size place-below;
     told = pin-told;
     owned = pin-owned;

@@ -1,7 +1,8 @@
 -- The steps that need no counting, and all of them together.
-use Rattle.std.proofs.Common.{◌≡◌, ℕ, zero, suc, ◌+◌, ◌<◌, true, false, ltb, List, length, get_or, replicate, Some, None, Ok, count_by, Option, sym, refl, ◌∙◌, subst, inl, inr, arith}
+use Rattle.std.proofs.Common.{◌≡◌, ℕ, ◌+◌, ◌*◌, ◌<◌, true, false, cond, ltb, List, length, get_or, Some, None, Ok, Option, sym, refl, ap, ◌∙◌, subst, inl, inr, arith}
 use Rattle.std.proofs.lemmas.List.{length-set, get_or-set_other}
-use Rattle.std.proofs.lemmas.List.Sums.{get_or-le-sum_by, sum_by-cons}
+use Rattle.std.proofs.lemmas.List.Sums.{get_or-le-sum_by}
+use Rattle.std.proofs.lemmas.List.Folds.{sum_by-replicate}
 use Rattle.std.proofs.lemmas.Bool.{cases_eq, eq-eqb, and_parts, both_ways}
 use Rattle.abi.specs.declared.entry.GrantEntry.{GrantEntry}
 use Rattle.frame.specs.Owners.{owns, owner_of, is_domain, with_owner}
@@ -16,35 +17,19 @@ use Rattle.grant.specs.declared.tables.Mode.{Mode}
 use Rattle.grant.specs.declared.tables.Mode.TheVariants.{Read, Write}
 use Rattle.grant.specs.declared.tables.Grants.{Grants}
 use Rattle.grant_law.specs.Sound.{Sound, StaysSound, through, count_of}
+use Rattle.grant_law.proofs.Places.{at-replicate}
 use Rattle.grant_law.proofs.Counting.{counted_bound, pinned-counts}
-use Rattle.grant_law.proofs.Verdicts.{accepted, lowest_is_free}
+use Rattle.grant_law.proofs.Verdicts.{map_accepted}
 use Rattle.grant_law.proofs.Pinning.{pinned_sound}
 use Rattle.grant_law.proofs.Unpinning.{released_sound}
-
-at-replicate : {X : Type 0} (n i : ℕ) (x : X) → get_or (replicate n x) i x ≡ x
-at-replicate zero i x = refl
-at-replicate (suc n) zero x = refl
-at-replicate (suc n) (suc i) x = at-replicate n i x
 
 no_count : (m : Mode) → count_of m fresh ≡ 0
 no_count Read = refl
 no_count Write = refl
 
-none-through : (i : ℕ) (m : Mode) (n : ℕ) → count_by (through i m) (replicate n None) ≡ 0
-none-through i m zero = refl
-none-through i m (suc n) = none-through i m n
-
-none-of_frame : (f n : ℕ) → count_by (of_frame false f) (replicate n None) ≡ 0
-none-of_frame f zero = refl
-none-of_frame f (suc n) = none-of_frame f n
-
 -- adding nothing, whatever the frame
 fresh-weight : (f : ℕ) → weight f fresh ≡ 0
 fresh-weight f = elim (cases_eq 0 f) [ inl e ↦ rw (eq-eqb 0 f e) | inr n ↦ grind (arith, n) ]
-
-no_pins : (f n : ℕ) → pins (replicate n fresh) f ≡ 0
-no_pins f zero = refl
-no_pins f (suc n) = omega (arith, sum_by-cons (weight f) fresh (replicate n fresh), fresh-weight f, no_pins f n)
 
 first_sound : (F : Frames) → length F.owners ≡ 256 → Sound F new_grants
 first_sound F size = record {
@@ -53,10 +38,10 @@ first_sound F size = record {
   records_size = refl;
   handles_size = refl;
   all_placed = λ k. rw (at-replicate {X = Option Mapping} 512 k None);
-  counts = λ m i b. rw (at-replicate 256 i fresh) (no_count m ∙ sym (none-through i m 512));
+  counts = λ m i b. rw (at-replicate 256 i fresh) (no_count m ∙ sym (sum_by-replicate (λ h. cond {A = ℕ} (through i m h) 1 0) 512 None));
   told = λ d h p b l e. absurd (let g : None ≡ Some p = sym (at-replicate 512 (key d h) None) ∙ e in let z : ◌≡◌ {A = ℕ} 0 1 = cc in omega arith);
   owned = λ d n b l p. absurd (both_ways (pinned fresh) refl (rw (at-replicate 256 (place d n) fresh) at p));
-  frame_pins = λ f. no_pins f 256 ∙ sym (none-of_frame f 512);
+  frame_pins = λ f. sum_by-replicate (weight f) 256 fresh ∙ ap (λ w. 256 * w) (fresh-weight f) ∙ sym (sum_by-replicate (λ h. cond {A = ℕ} (of_frame false f h) 1 0) 512 None);
 }
 
 entry_sound : (F : Frames) (G : Grants) (i : ℕ) (e : GrantEntry) → Sound F G → Sound F (with_entry i e G)
@@ -113,10 +98,10 @@ let_go_sound F G f z s = owner_sound F G f None (λ o n b l p e. pins-at G.recor
 pinning_sound : (F : Frames) (G : Grants) (d owner reference mode : ℕ) (g : Grant) → d < 8
     → map_verdict F G d owner reference mode ≡ Ok g → Sound F G → Sound F (pin d g.handle g.mapping G)
 pinning_sound F G d owner reference mode g b q s =
-    let a = accepted F G d owner reference mode g q in
-    let free = lowest_is_free G.handles d g.handle b s.handles_size a.free in
+    let a = map_accepted F G d owner reference mode g b s.handles_size q in
     subst (λ p. Sound F (pin d g.handle p G)) (sym a.made)
-    (pinned_sound F G d g.handle (mapping_of G owner reference (mode_of mode)) s b free.0 a.domain a.within free.1 a.owned a.same)
+    (pinned_sound F G d g.handle (mapping_of G owner reference (mode_of mode)) s b a.handle a.domain a.within a.free
+    (subst (λ (p : Mapping). owns F owner p.frame ≡ true) a.made a.owned) a.same)
 
 pub stays_sound : StaysSound
 stays_sound = record {

@@ -1,9 +1,8 @@
 -- A handle that is freed leaves the tables sound.
-use Rattle.std.proofs.Common.{◌≡◌, ℕ, ◌^◌, ◌<◌, Bool, true, false, cond, eqb, length, Some, None, count_by, Option, sym, refl, ap, ◌∙◌, subst, inl, inr, arith}
+use Rattle.std.proofs.Common.{◌≡◌, ℕ, ◌^◌, ◌<◌, Bool, true, false, cond, eqb, length, Some, None, count_by, sym, refl, ap, ◌∙◌, subst, inl, inr, arith}
 use Rattle.std.proofs.lemmas.List.{length-set, get_or-set_same, get_or-set_other}
 use Rattle.std.proofs.lemmas.List.Sums.{sum_by-set}
 use Rattle.std.proofs.lemmas.Bool.{cases_eq, lt-ltb}
-use Rattle.rules.specs.Refusal.{if_some}
 use Rattle.rules.specs.Tables.{at}
 use Rattle.frame.specs.Owners.{owns}
 use Rattle.frame.specs.declared.owners.Frames.{Frames}
@@ -16,6 +15,7 @@ use Rattle.grant_law.proofs.Counting.{counted_bound, counted_use, counted-unpin,
 use Rattle.grant_law.proofs.Weights.{removed-weight, removed-told}
 use Rattle.grant_law.proofs.Verdicts.{in_use_is}
 use Rattle.grant_law.proofs.Pinning.{and_true}
+use Rattle.grant_law.proofs.Places.{each_set, stood_before, by_some, counted_less}
 
 -- the mapping p is in use under the handle h of the domain d
 module _ (F : Frames) (G : Grants) (d h : ℕ) (p : Mapping) (s : Sound F G)
@@ -36,7 +36,7 @@ module _ (F : Frames) (G : Grants) (d h : ℕ) (p : Mapping) (s : Sound F G)
   abbrev after : Grants
   after = freed (key d h) (unused (place_of p) p.mode G)
 
-  unpin-is : unpin d h p G ≡ after
+  pub unpin-is : unpin d h p G ≡ after
   unpin-is = ap (λ (b : Bool). freed (key d h) (cond b (unused (place_of p) p.mode G) G)) (lt-ltb (place_of p) 256 place-below)
 
   used : 0 < count_of p.mode (record_at G (place_of p))
@@ -58,47 +58,32 @@ module _ (F : Frames) (G : Grants) (d h : ℕ) (p : Mapping) (s : Sound F G)
         | inr n ↦ rw get_or-set_other ((λ v. v), refl, refl)
       ]
 
-  -- every handle in use then was in use before
-  handle-after : (k : ℕ) (q : Mapping) → at after.handles k ≡ Some q → at G.handles k ≡ Some q
-  handle-after k q e =
-      let inside = key-inside in
-      elim (cases_eq k (key d h)) [
-        | inl i ↦ absurd (let g : None ≡ Some q = sym (get_or-set_same G.handles (key d h) None None inside) ∙ rw i at e in let z : ◌≡◌ {A = ℕ} 0 1 = cc in omega arith)
-        | inr n ↦ rw get_or-set_other at e
-      ]
-
-  after-placed : (k : ℕ) → placed (at after.handles k) ≡ true
-  after-placed k =
-      let inside = key-inside in
-      elim (cases_eq k (key d h)) [ inl e ↦ rw (e, get_or-set_same) | inr n ↦ rw get_or-set_other (s.all_placed k) ]
-
   after-pins : (f : ℕ) → pins after.records f ≡ count_by (of_frame false f) after.handles
   after-pins f =
       let r = record_at G (place_of p) in
       let lighter = removed-weight p.mode f r used bound in
       let told = (s.told d h p domain handle here).0 in
       let frame : ◌≡◌ {A = ℕ} (cond (eqb r.frame f) 1 0) (cond (eqb p.frame f) 1 0) = ap (λ g. cond {A = ℕ} (eqb g f) 1 0) told in
-      let old : ◌≡◌ {A = ℕ} (cond (of_frame false f (at G.handles (key d h))) 1 0) (cond (eqb p.frame f) 1 0) =
-      ap (λ (x : Option Mapping). cond {A = ℕ} (of_frame false f x) 1 0) here ∙ ap (λ (b : Bool). cond {A = ℕ} b 1 0) (and_true (eqb p.frame f)) in
+      let old : ◌≡◌ {A = ℕ} (cond (of_frame false f (Some p)) 1 0) (cond (eqb p.frame f) 1 0) = ap (λ (b : Bool). cond {A = ℕ} b 1 0) (and_true (eqb p.frame f)) in
       omega (
         arith,
         sum_by-set (weight f) G.records (place_of p) (removed p.mode r) fresh place_inside,
         lighter,
         s.frame_pins f,
-        sum_by-set (λ x. cond {A = ℕ} (of_frame false f x) 1 0) G.handles (key d h) None None key-inside,
+        counted_less (of_frame false f) G.handles (key d h) p refl key-inside here,
         old,
         frame,
       )
 
-  after-sound : Sound F after
+  pub after-sound : Sound F after
   after-sound = record {
     owners_size = s.owners_size;
     entries_size = length-set G.entries (place_of p) _ ∙ s.entries_size;
     records_size = length-set G.records (place_of p) _ ∙ s.records_size;
     handles_size = length-set G.handles (key d h) _ ∙ s.handles_size;
-    all_placed = after-placed;
+    all_placed = each_set (λ k o. placed o ≡ true) G.handles (key d h) None None refl s.all_placed;
     counts = counted-unpin G.records G.handles s.handles_size s.counts (key d h) p key-inside here s.records_size place-below;
-    told = λ d' h' q b l e. (let was = s.told d' h' q b l (handle-after (key d' h') q e) in let r = record-after (place_of q) in (r.1 ∙ was.0, r.2 ∙ was.1));
+    told = λ d' h' q b l e. (let was = s.told d' h' q b l (stood_before G.handles (key d h) (key d' h') q e) in let r = record-after (place_of q) in (r.1 ∙ was.0, r.2 ∙ was.1));
     owned = λ o n b l is-pinned. (let r = record-after (place o n) in subst (λ v. owns F o v ≡ true) (sym r.1) (s.owned o n b l (r.0 is-pinned)));
     frame_pins = after-pins;
   }
@@ -106,12 +91,8 @@ module _ (F : Frames) (G : Grants) (d h : ℕ) (p : Mapping) (s : Sound F G)
   pub unpinned_sound : Sound F (unpin d h p G)
   unpinned_sound = subst (Sound F) (sym unpin-is) after-sound
 
-by_use : (P : Grants → Type 0) (o : Option Mapping) (G : Grants) (f : Mapping → Grants) → P G → ((p : Mapping) → o ≡ Some p → P (f p)) → P (if_some o G f)
-by_use P (Some p) G f c k = k p refl
-by_use P None G f c k = c
-
 pub released_sound : (F : Frames) (G : Grants) (d h : ℕ) → d < 8 → Sound F G → Sound F (released d h G)
 released_sound F G d h b s =
-    by_use (Sound F) (in_use G d h) G (λ p. unpin d h p G) s λ p q.
+    by_some (Sound F) (in_use G d h) G (λ p. unpin d h p G) (λ _. s) λ p q.
     let i = in_use_is G d h p q in
     unpinned_sound F G d h p s b i.0 i.1

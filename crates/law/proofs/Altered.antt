@@ -9,24 +9,20 @@ use Rattle.device.specs.Meaning.{Rules, serving}
 use Rattle.device.specs.Transfer.{end_of, part_rules, overwritten, handing, filled_parts}
 use Rattle.device.specs.declared.orders.Direction.TheVariants.{Inward}
 use Rattle.device.specs.declared.transfer.Part.{Part}
-use Rattle.law.proofs.Bytes.{placed-size}
-use Rattle.law.proofs.Inv.{no_part}
+use Rattle.law.proofs.Inv.{PartIn, no_part}
 
--- the part p lies in the frame f
-pub record PartIn (p : Part) (f : ℕ) : Type 0 where
-  pub offset : ℕ
-  pub start : p.start ≡ 4096 * f + offset
-  pub inside : offset + p.length ≤ 4096
+-- bytes over a part of the memory are placed there
+pub overwritten_is : (p : Part) (ys m : List ℕ) → length ys ≡ p.length → overwritten p ys m ≡ placed p.start ys m
+overwritten_is p ys m size = ap (λ n. take p.start m ++ (ys ++ drop (p.start + n) m)) (sym size)
 
--- bytes over a part of the memory leave every frame but the one in which it lies
+-- they leave every frame but the one in which it lies
 overwritten-others : (p : Part) (f g : ℕ) (ys m : List ℕ) → PartIn p f → (g ≡ f → ⊥) → length ys ≡ p.length → end_of p ≤ length m
     → frame_bytes g (overwritten p ys m) ≡ frame_bytes g m
 overwritten-others p f g ys m lies other size within =
     let offset : ℕ = lies.offset in
     let start : p.start ≡ 4096 * f + offset = lies.start in
     let inside : offset + p.length ≤ 4096 = lies.inside in
-    let same : overwritten p ys m ≡ placed p.start ys m = ap (λ n. take p.start m ++ (ys ++ drop (p.start + n) m)) (sym size) in
-    ap (frame_bytes g) same
+    ap (frame_bytes g) (overwritten_is p ys m size)
     ∙ placed_elsewhere p.start ys m (omega arith) (4096 * g) 4096
     (elim (cases_order g f) [
       | inl e ↦ absurd (other e)
@@ -47,17 +43,3 @@ filled-others D laws x t at (p ∷ ps) m g lies =
     let within : end_of p ≤ length m = ltb-false (length m) (end_of p) h.0.0 in
     filled-others D laws x t (at + p.length) ps (overwritten p (D.bytes x o at p.length) m) g (λ i below. lies (suc i) (omega arith))
     ∙ overwritten-others p here.0 g (D.bytes x o at p.length) m here.1.0 here.1.1 (laws.bytes_length x o at p.length) within)
-
--- and the size of the memory
-pub filled-size : {X : Type 0} (D : Rules X) → Laws D → (x : X) (t at : ℕ) (ps : List Part) (m : List ℕ) → length (filled_parts D x t at ps m) ≡ length m
-filled-size D laws x t at [] m = refl
-filled-size D laws x t at (p ∷ ps) m =
-    by_verdict (λ (after : List ℕ). length after ≡ length m) (handing D x t Inward at p (length m)) m
-    (λ o. filled_parts D x t (at + p.length) ps (overwritten p (D.bytes x o at p.length) m)) refl
-    (λ o granted.
-    let h = none-held (part_rules (length m) at p) (serving D x t Inward (at + p.length)) o granted in
-    let within : end_of p ≤ length m = ltb-false (length m) (end_of p) h.0.0 in
-    let size : length (D.bytes x o at p.length) ≡ p.length = laws.bytes_length x o at p.length in
-    filled-size D laws x t (at + p.length) ps (overwritten p (D.bytes x o at p.length) m)
-    ∙ ap (λ n. length (take p.start m ++ (D.bytes x o at p.length ++ drop (p.start + n) m))) (sym size)
-    ∙ placed-size p.start (D.bytes x o at p.length) m (omega arith))

@@ -3,6 +3,7 @@
 use Rattle.std.proofs.Common.{◌≡◌, ℕ, ◌<◌, Bool, true, false, cond, eqb, ◌⊎◌, List, [], ◌∷◌, ◌++◌, length, drop, set, Some, None, Ok, Err, Option, sym, refl, ap, ◌∙◌, inl, inr, ⊎_elim, arith}
 use Rattle.std.specs.Option.{option_map}
 use Rattle.std.proofs.lemmas.List.{append-nil, get_or-set_same, get_or-set_other}
+use Rattle.std.proofs.lemmas.List.Elements.{filter-append}
 use Rattle.std.proofs.lemmas.Bool.{cases_eq, cases_Bool, eq-eqb, ne_eqb, eqb-true, cond-true, cond-false}
 use Rattle.rules.specs.Tables.{at}
 use Rattle.device.specs.Meaning.{Rules, others, first_of, on_turn, next_order, ready_ticket, accepting, finishing}
@@ -15,17 +16,6 @@ use Rattle.connection.specs.declared.kinds.Bay.{Bay}
 use Rattle.law.specs.Account.{JobNote}
 use Rattle.law.specs.Keeps.{under_ticket, handed}
 use Rattle.law.proofs.Inv.{BayHeld}
-
--- the orders of a row under a ticket are those of its front and then those of its rest
-cond_cons : {A : Type 0} (b : Bool) (a : A) (xs ys : List A) → cond b (a ∷ (xs ++ ys)) (xs ++ ys) ≡ cond b (a ∷ xs) xs ++ ys
-cond_cons true a xs ys = refl
-cond_cons false a xs ys = refl
-
-pub under-append : (t : ℕ) (os ps : List Order) → under_ticket t (os ++ ps) ≡ under_ticket t os ++ under_ticket t ps
-under-append t [] ps = refl
-under-append t (o ∷ os) ps =
-    ap (λ qs. cond (eqb o.ticket t) (o ∷ qs) qs) (under-append t os ps)
-    ∙ cond_cons (eqb o.ticket t) o (under_ticket t os) (under_ticket t ps)
 
 -- an order alone is under its own ticket, and under no other
 pub under-own : (o : Order) → under_ticket o.ticket (o ∷ []) ≡ o ∷ []
@@ -70,7 +60,7 @@ pub under-accepted : {X : Type 0} (D : Rules X) → Laws D → (x : X) (o : Orde
     → accepting D x o ≡ Ok tt → o.ticket < length jobs → at jobs o.ticket ≡ None → n.order ≡ o → same_bay (bay_of n.kind) b ≡ true
     → BayHeld D x b jobs → BayHeld D (D.with_order x o) b (set jobs o.ticket (Some n))
 under-accepted D laws x o b jobs n ok lt free order bay held = λ t.
-    let split : under_ticket t (D.orders (D.with_order x o)) ≡ under_ticket t (D.orders x) ++ under_ticket t (o ∷ []) = ap (under_ticket t) (laws.accept_orders x o ok) ∙ under-append t (D.orders x) (o ∷ []) in
+    let split : under_ticket t (D.orders (D.with_order x o)) ≡ under_ticket t (D.orders x) ++ under_ticket t (o ∷ []) = ap (under_ticket t) (laws.accept_orders x o ok) ∙ filter-append (λ p. eqb p.ticket t) (D.orders x) (o ∷ []) in
     ⊎_elim
     (λ (e : t ≡ o.ticket).
     let nothing : under_ticket t (D.orders x) ≡ [] = held t ∙ ap (λ s. handed b (at jobs s)) e ∙ ap (handed b) free in

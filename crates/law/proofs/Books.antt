@@ -1,13 +1,15 @@
 -- Frames, entries and mappings: what the account has of them stays the host's, step by step.
 use Rattle.std.proofs.Common.{◌≡◌, ℕ, zero, suc, ◌+◌, ◌-◌, ◌*◌, ◌/◌, ◌%◌, ◌<◌, ◌≤◌, Bool, true, false, cond, not, ◌&&◌, ◌||◌, eqb, ltb, ◌⊎◌, List, [], ◌∷◌, map, length, get_or, take, drop, set, replicate, Some, None, Ok, Err, sum_by, count_by, Option, Result, sym, refl, ap, ◌∙◌, subst, inl, inr, arith}
 use lib.Bits.{bit_and, bit_or}
+use lib.ListN.{get_or-map}
 use Rattle.std.specs.List.{between}
 use Rattle.std.specs.Option.{option_map}
 use Rattle.std.proofs.lemmas.Nat.{and_mod, and_mask, or_mod, or_comm}
 use Rattle.std.proofs.lemmas.List.Edits.{get_or-between}
 use Rattle.std.proofs.lemmas.List.{length-set, length-map, length-take, get_or-set_same, get_or-set_other, get_or_past, set_past, map-set, take-map, drop-map}
-use Rattle.std.proofs.lemmas.List.Sums.{sum_by-cons, sum_by-set}
-use Rattle.std.proofs.lemmas.Bool.{cases_eq, cases_lt, eq-eqb, ne_eqb, ltb-true, le-ltb, lt-ltb, cond-false, eqb-true, and_parts, or_cases, cases_Bool, both_ways}
+use Rattle.std.proofs.lemmas.List.Sums.{sum_by-cons}
+use Rattle.std.proofs.lemmas.List.Folds.{sum_by-replicate}
+use Rattle.std.proofs.lemmas.Bool.{cases_eq, cases_lt, eq-eqb, ne_eqb, ltb-true, le-ltb, cond-false, eqb-true, and_parts, or_cases, cases_Bool, both_ways}
 use Rattle.abi.specs.declared.entry.GrantEntry.{GrantEntry}
 use Rattle.rules.specs.Refusal.{if_some}
 use Rattle.rules.specs.Tables.{at, first_free, some_of}
@@ -28,18 +30,13 @@ use Rattle.grant_law.specs.Sound.{Sound, place_of}
 use Rattle.grant_law.proofs.Counting.{placed-place, counted_use, use_pins}
 use Rattle.grant_law.proofs.Pinning.{and_true}
 use Rattle.grant_law.proofs.Steps.{stays_sound}
-use Rattle.grant_law.proofs.Unpinning.{unpinned_sound}
-use Rattle.grant_law.proofs.Verdicts.{accepted, lowest_is_free, in_use_is}
+use Rattle.grant_law.proofs.Places.{at-replicate, stood_before, counted_more, counted_less}
+use Rattle.grant_law.proofs.Unpinning.{unpin-is, after-sound}
+use Rattle.grant_law.proofs.Verdicts.{Accepted, map_accepted, in_use_is}
 use Rattle.law.specs.World.{new_host}
 use Rattle.law.specs.Account.{Account, MappingNote, nothing_yet, counted, noted_owner, noted_entry, mapping_noted, mapping_ended}
 use Rattle.law.specs.Keeps.{Maps, Writes, Granted, on_frame}
 use Rattle.law.proofs.Inv.{Books, BooksOf}
-
--- every element of a list of equal elements is that one
-pub at-replicate : {X : Type 0} (n i : ℕ) (x : X) → get_or (replicate n x) i x ≡ x
-at-replicate zero i x = refl
-at-replicate (suc n) zero x = refl
-at-replicate (suc n) (suc i) x = at-replicate n i x
 
 -- what is the same of two lists of one length stays so, if it is the same of what is set in both
 pub same_set : {X Y : Type 0} (f : X → Y) (d x y : X) (xs ys : List X) (i : ℕ) → length xs ≡ length ys → f x ≡ f y
@@ -69,11 +66,6 @@ kept_set f d x (y ∷ xs) (suc i) e (suc j) = kept_set f d x xs i e j
 abbrev pub mapping_in : Option MappingNote → Option Mapping
 mapping_in o = option_map (λ (n : MappingNote). n.mapping) o
 
--- no place is on a frame where every place is free
-none-on_frame : (f n : ℕ) → count_by (on_frame f) (replicate n None) ≡ 0
-none-on_frame f zero = refl
-none-on_frame f (suc n) = none-on_frame f n
-
 -- a new host's books
 pub books_start : (n : ℕ) → BooksOf (new_host n).frames (new_host n).grants nothing_yet
 unfolding new_host nothing_yet
@@ -89,7 +81,7 @@ books_start n = record {
   handles_same = refl;
   named = λ d h n b e. absurd (let g : None ≡ Some n = sym (at-replicate 512 (key d h) None) ∙ e in let z : ◌≡◌ {A = ℕ} 0 1 = cc in omega arith);
   under = λ d h n b e. absurd (let g : None ≡ Some n = sym (at-replicate 512 (key d h) None) ∙ e in let z : ◌≡◌ {A = ℕ} 0 1 = cc in omega arith);
-  counted = λ f b. (let e = none-on_frame f 512 in rw (at-replicate {X = ℕ} 256 f 0) (omega arith));
+  counted = λ f b. (let e : count_by (on_frame f) (replicate 512 None) ≡ 0 = sum_by-replicate (λ o. cond {A = ℕ} (on_frame f o) 1 0) 512 None in rw (at-replicate {X = ℕ} 256 f 0) (omega arith));
 }
 
 -- the owner of a frame changes, in both
@@ -146,12 +138,6 @@ pub books_ended : (F : Frames) (G : Grants) (a : Account) (i : ℕ) → BooksOf 
     → BooksOf F (with_entry i (with_flags 0 (entry_at G i)) G) (noted_entry i (with_flags 0 (get_or a.entries i blank)) a)
 books_ended F G a i b = books_both_entries F G a i (with_flags 0 (entry_at G i)) (with_flags 0 (get_or a.entries i blank)) refl (b.domid_same i) (b.frame_same i) b
 
--- what a place of a table is, read through a map of the whole
-pub at-mapped : {X Y : Type 0} (f : X → Y) (xs : List (Option X)) (k : ℕ) → at (map (option_map f) xs) k ≡ option_map f (at xs k)
-at-mapped f [] k = refl
-at-mapped f (x ∷ xs) zero = refl
-at-mapped f (x ∷ xs) (suc k) = at-mapped f xs k
-
 -- what was mapped to some y is some x with f x ≡ y
 pub mapped_from : {X Y : Type 0} (f : X → Y) (o : Option X) (y : Y) → option_map f o ≡ Some y → (x : X) × ((o ≡ Some x) × (f x ≡ y))
 mapped_from f (Some x) y e = (x, (refl, cc))
@@ -165,7 +151,7 @@ mapped-none f None e = refl
 module _ (F : Frames) (G : Grants) (a : Account) (b : BooksOf F G a) where
   -- a handle is its note's mapping
   pub at-handle : (k : ℕ) → at G.handles k ≡ mapping_in (at a.mappings k)
-  at-handle k = ap (λ (hs : List (Option Mapping)). at hs k) b.handles_same ∙ at-mapped (λ (n : MappingNote). n.mapping) a.mappings k
+  at-handle k = ap (λ (hs : List (Option Mapping)). at hs k) b.handles_same ∙ get_or-map mapping_in a.mappings k None
 
   -- there are as many notes as handles
   pub mappings-size : length a.mappings ≡ 512
@@ -225,36 +211,6 @@ owns_parts F d f e =
     let w = and_parts (ltb f F.count) (is_domain d (owner_of F f)) e in
     (ltb-true f F.count w.0, domain_is d (owner_of F f) w.1)
 
--- what an accepted map says
-pub record MapAccepted (F : Frames) (G : Grants) (d o n md : ℕ) (g : Grant) : Type 0 where
-  pub handle : g.handle < 64
-  pub free : at G.handles (key d g.handle) ≡ None
-  pub lowest_is : lowest G.handles d ≡ Some g.handle
-  pub mapping : g.mapping ≡ mapping_of G o n (mode_of md)
-  pub owner : o < 8
-  pub reference : n < 32
-  pub names_it : names (entry_at G (place o n)) d ≡ true
-  pub owned : owns F o g.mapping.frame ≡ true
-  pub exists : g.mapping.frame < F.count
-
--- and that it says so
-pub map-accepted : (F : Frames) (G : Grants) (d o n md : ℕ) (g : Grant) → d < 8 → length G.handles ≡ 512 → map_verdict F G d o n md ≡ Ok g → MapAccepted F G d o n md g
-map-accepted F G d o n md g b size q =
-    let a = accepted F G d o n md g q in
-    let low = lowest_is_free G.handles d g.handle b size a.free in
-    let own : owns F o g.mapping.frame ≡ true = subst (λ (p : Mapping). owns F o p.frame ≡ true) (sym a.made) a.owned in
-    record {
-      handle = low.0;
-      free = low.1;
-      lowest_is = a.free;
-      mapping = a.made;
-      owner = a.domain;
-      reference = a.within;
-      names_it = a.granted;
-      owned = own;
-      exists = (owns_parts F o g.mapping.frame own).0;
-    }
-
 -- one more of the frame g
 pub counted-up : (g f : ℕ) (xs : List ℕ) → f < length xs → get_or (counted g xs) f 0 ≡ get_or xs f 0 + cond (eqb g f) 1 0
 counted-up g f xs b =
@@ -262,20 +218,6 @@ counted-up g f xs b =
       | inl e ↦ rw (e, get_or-set_same xs g (get_or xs g 0 + 1) 0 (rw e at b), eq-eqb g g refl)
       | inr n ↦ rw (get_or-set_other xs g f (get_or xs g 0 + 1) 0 n, ne_eqb g f (λ e. n (sym e))) (omega arith)
     ]
-
--- a note more on its frame, where there was none
-note_more : (f k : ℕ) (n : MappingNote) (ms : List (Option MappingNote)) → k < length ms → at ms k ≡ None
-    → count_by (on_frame f) (set ms k (Some n)) ≡ count_by (on_frame f) ms + cond (eqb n.mapping.frame f) 1 0
-note_more f k n ms b e =
-    let old : ◌≡◌ {A = ℕ} (cond (on_frame f (at ms k)) 1 0) 0 = ap (λ (x : Option MappingNote). cond {A = ℕ} (on_frame f x) 1 0) e in
-    omega (arith, old, sum_by-set (λ x. cond {A = ℕ} (on_frame f x) 1 0) ms k (Some n) None b)
-
--- and one less, where there was one
-note_less : (f k : ℕ) (n : MappingNote) (ms : List (Option MappingNote)) → k < length ms → at ms k ≡ Some n
-    → count_by (on_frame f) (set ms k None) + cond (eqb n.mapping.frame f) 1 0 ≡ count_by (on_frame f) ms
-note_less f k n ms b e =
-    let old : ◌≡◌ {A = ℕ} (cond (on_frame f (at ms k)) 1 0) (cond (eqb n.mapping.frame f) 1 0) = ap (λ (x : Option MappingNote). cond {A = ℕ} (on_frame f x) 1 0) e in
-    omega (arith, old, sum_by-set (λ x. cond {A = ℕ} (on_frame f x) 1 0) ms k None None b)
 
 -- an accepted map is noted
 module _ (F : Frames) (G : Grants) (a : Account) (d o n md : ℕ) (g : Grant)
@@ -289,19 +231,19 @@ module _ (F : Frames) (G : Grants) (a : Account) (d o n md : ℕ) (g : Grant)
   the-note = record { mapping = record { owner = o; reference = n; frame = the-entry.frame; mode = mode_of md }; under = the-entry }
 
   -- what the host says by accepting
-  map-says : MapAccepted F G d o n md g
-  map-says = map-accepted F G d o n md g domain b.sound.handles_size verdict
+  map-says : Accepted F G d o n md g
+  map-says = map_accepted F G d o n md g domain b.sound.handles_size verdict
 
   -- the noted mapping is the granted one
   noted-is-granted : the-note.mapping ≡ g.mapping
   noted-is-granted =
       let e : mapping_of G o n (mode_of md) ≡ the-note.mapping = ap (λ (f : ℕ). let p : Mapping = record { owner = o; reference = n; frame = f; mode = mode_of md } in p) (b.frame_same (place o n)) in
-      sym e ∙ sym map-says.mapping
+      sym e ∙ sym map-says.made
 
   -- the noted entry names the mapper
   the-note-names : names the-entry d ≡ true
   the-note-names =
-      let w = map-says.names_it in
+      let w = map-says.granted in
       let t : eqb ((entry_at G (place o n)).flags % 4) 1 ≡ eqb (the-entry.flags % 4) 1 = ap (λ x. eqb x 1) (b.type_same (place o n)) in
       let m : eqb (entry_at G (place o n)).domid d ≡ eqb the-entry.domid d = ap (λ x. eqb x d) (b.domid_same (place o n)) in
       sym (ap (λ (x : Bool). x && eqb (entry_at G (place o n)).domid d) t ∙ ap (λ (x : Bool). eqb (the-entry.flags % 4) 1 && x) m) ∙ w
@@ -352,7 +294,7 @@ module _ (F : Frames) (G : Grants) (a : Account) (d o n md : ℕ) (g : Grant)
           arith,
           b.counted f l,
           counted-up the-entry.frame f a.maps (omega (arith, b.maps-size)),
-          note_more f (key d g.handle) the-note a.mappings the-key (no_note F G a b (key d g.handle) map-says.free),
+          counted_more (on_frame f) a.mappings (key d g.handle) the-note refl the-key (no_note F G a b (key d g.handle) map-says.free),
         );
       }
 
@@ -366,29 +308,13 @@ module _ (F : Frames) (G : Grants) (a : Account) (d h : ℕ) (m : MappingNote) (
   there : at G.handles (key d h) ≡ Some the-mapping
   there = handle-of F G a b (key d h) m noted
 
-  -- the entry that it maps through is there
-  place-below : place_of the-mapping < 256
-  place-below = let w = placed-place the-mapping (rw there at (b.sound.all_placed (key d h))) in omega arith
-
   -- the tables then, with the entry known to be there
   abbrev after : Grants
   after = freed (key d h) (unused (place_of the-mapping) the-mapping.mode G)
 
-  -- so the tables are these
-  unpin-is : unpin d h the-mapping G ≡ after
-  unpin-is = ap (λ (t : Bool). freed (key d h) (cond t (unused (place_of the-mapping) the-mapping.mode G) G)) (lt-ltb (place_of the-mapping) 256 place-below)
-
   -- its note is in the table
   key-inside : key d h < length a.mappings
   key-inside = omega (arith, mappings-size F G a b)
-
-  -- every note then was there before
-  note-before : (k : ℕ) (n : MappingNote) → at (set a.mappings (key d h) None) k ≡ Some n → at a.mappings k ≡ Some n
-  note-before k n e =
-      elim (cases_eq k (key d h)) [
-        | inl i ↦ absurd (let q : None ≡ Some n = sym (get_or-set_same a.mappings (key d h) None None key-inside) ∙ rw i at e in let z : ◌≡◌ {A = ℕ} 0 1 = cc in omega arith)
-        | inr far ↦ sym (get_or-set_other a.mappings (key d h) k None None far) ∙ e
-      ]
 
   -- the books of a host with the tables G', and the note gone
   abbrev BooksAfter : Grants → Type 0
@@ -401,7 +327,7 @@ module _ (F : Frames) (G : Grants) (a : Account) (d h : ℕ) (m : MappingNote) (
       let r : Record = removed the-mapping.mode (record_at G i) in
       let e : GrantEntry = with_flags (unflagged r (entry_at G i).flags) (entry_at G i) in
       record {
-        sound = subst (Sound F) unpin-is (unpinned_sound F G d h the-mapping b.sound domain handle there);
+        sound = after-sound F G d h the-mapping b.sound domain handle there;
         owners_same = b.owners_same;
         entries_size = b.entries_size;
         maps-size = b.maps-size;
@@ -412,19 +338,19 @@ module _ (F : Frames) (G : Grants) (a : Account) (d h : ℕ) (m : MappingNote) (
         handles_same =
             ap (λ (hs : List (Option Mapping)). set hs (key d h) None) b.handles_same
             ∙ sym (map-set mapping_in a.mappings (key d h) None);
-        named = λ d' h' n l q. b.named d' h' n l (note-before (key d' h') n q);
-        under = λ d' h' n l q. b.under d' h' n l (note-before (key d' h') n q);
+        named = λ d' h' n l q. b.named d' h' n l (stood_before a.mappings (key d h) (key d' h') n q);
+        under = λ d' h' n l q. b.under d' h' n l (stood_before a.mappings (key d h) (key d' h') n q);
         counted = λ f l. omega (
           arith,
           b.counted f l,
           counted-up the-mapping.frame f a.unmaps (omega (arith, b.unmaps-size)),
-          note_less f (key d h) m a.mappings key-inside noted,
+          counted_less (on_frame f) a.mappings (key d h) m refl key-inside noted,
         );
       }
 
   -- so they hold when the mapping ends
   noted-unpinned : BooksAfter (unpin d h the-mapping G)
-  noted-unpinned = subst BooksAfter (sym unpin-is) books-after
+  noted-unpinned = subst BooksAfter (sym (unpin-is F G d h the-mapping b.sound domain handle there)) books-after
 
 -- a handle below 64 is in use if there is something at its place
 pub in_use-here : (G : Grants) (d h : ℕ) → h < 64 → in_use G d h ≡ at G.handles (key d h)
@@ -513,21 +439,21 @@ place_parts : (k : ℕ) → k < 512 → (d : ℕ) × (h : ℕ) × ((d < 8) × ((
 place_parts k b = (k / 64, k % 64, (omega arith, (omega arith, omega arith)))
 
 module _ (F : Frames) (G : Grants) (a : Account) (b : BooksOf F G a) where
-  -- the frame of a handle in use belongs to the entry's domain
-  pub frame-owned : (d h : ℕ) (p : Mapping) → d < 8 → h < 64 → at G.handles (key d h) ≡ Some p → owns F p.owner p.frame ≡ true
+  -- the frame of a handle in use exists, and is the entry's domain's
+  pub frame-owned : (d h : ℕ) (p : Mapping) → d < 8 → h < 64 → at G.handles (key d h) ≡ Some p → (p.frame < F.count) × (owner_of F p.frame ≡ Some p.owner)
   frame-owned d h p domain handle e =
       let s = b.sound in
       let w = placed-place p (rw e at (s.all_placed (key d h))) in
       let used = counted_use G.records G.handles s.handles_size s.counts (key d h) p (omega (arith, s.handles_size)) e (omega arith) in
       let own = s.owned p.owner p.reference w.0 w.1 (use_pins p.mode (record_at G (place_of p)) used) in
-      subst (λ f. owns F p.owner f ≡ true) (s.told d h p domain handle e).0 own
+      owns_parts F p.owner p.frame (subst (λ f. owns F p.owner f ≡ true) (s.told d h p domain handle e).0 own)
 
   -- each mapping in force was granted
   pub granted : (d h : ℕ) (n : MappingNote) → h < 64 → at a.mappings (key d h) ≡ Some n → Granted a d n
   granted d h n handle e =
       elim (cases_lt d 8) [
         | inl domain ↦
-            let own = (owns_parts F n.mapping.owner n.mapping.frame (frame-owned d h n.mapping domain handle (handle-of F G a b (key d h) n e))).1 in
+            let own = (frame-owned d h n.mapping domain handle (handle-of F G a b (key d h) n e)).1 in
             record {
               named = b.named d h n handle e;
               frame = b.under d h n handle e;
@@ -586,7 +512,7 @@ module _ (F : Frames) (G : Grants) (a : Account) (b : BooksOf F G a) where
       let p = of_frame_is false f (at G.handles k) i.1.1 in
       let w = place_parts k (omega (arith, i.1.0, b.sound.handles_size)) in
       let there : at G.handles (key w.0 w.1) ≡ Some p.0 = ap (λ (j : ℕ). at G.handles j) w.2.1.1 ∙ p.1.0 in
-      let own = (owns_parts F p.0.owner p.0.frame (frame-owned w.0 w.1 p.0 w.2.0 w.2.1.0 there)).1 in
+      let own = (frame-owned w.0 w.1 p.0 w.2.0 w.2.1.0 there).1 in
       let q : None ≡ Some p.0.owner = sym free ∙ ap (λ (g : ℕ). owner_of F g) (sym p.1.1) ∙ own in
       let z : ◌≡◌ {A = ℕ} 0 1 = cc in
       omega arith

@@ -17,6 +17,7 @@ use Rattle.ring.specs.Page.{offset_of}
 use Rattle.ring.specs.Total.{put_in, request_or_zeros}
 use Rattle.ring.specs.Response.{response_bytes}
 use Rattle.ring.specs.declared.page.Word.TheVariants.{RspProd}
+use Rattle.ring.proofs.InPage.{slot_inside}
 use Rattle.connection.specs.declared.tables.Connection.{Connection}
 use Rattle.backend.specs.Look.{next_index}
 use Rattle.backend.specs.Respond.{responded_memory}
@@ -48,27 +49,18 @@ put_others m page offset bs g other =
     by_verdict (λ (after : List ℕ). frame_bytes g after ≡ frame_bytes g m) (part_verdict (length m) page offset (length bs)) m (λ _. placed (4096 * page + offset) bs m) refl
     (λ t granted. let p = part_granted (length m) page offset (length bs) granted in placed_in_frame page offset bs m p.1 p.0 g other)
 
--- bytes stored in a frame leave the other frames
-pub stored_others : (f offset : ℕ) (bs m : List ℕ) (g : ℕ) → offset + length bs ≤ 4096 → 4096 * f + 4096 ≤ length m → (g ≡ f → ⊥) → frame_bytes g (placed (4096 * f + offset) bs m) ≡ frame_bytes g m
-stored_others f offset bs m g inside there other = placed_in_frame f offset bs m inside there g other
-
--- a whole frame of other bytes leaves the size
-frame-size : (f : ℕ) (bs m : List ℕ) → length bs ≡ 4096 → 4096 * f + 4096 ≤ length m → length (placed (4096 * f) bs m) ≡ length m
-frame-size f bs m size there = placed-size (4096 * f) bs m (omega arith)
-
--- and the other frames
-frame-others : (f : ℕ) (bs m : List ℕ) (g : ℕ) → length bs ≡ 4096 → 4096 * f + 4096 ≤ length m → (g ≡ f → ⊥) → frame_bytes g (placed (4096 * f) bs m) ≡ frame_bytes g m
-frame-others f bs m g size there other =
-    let start : 4096 * f + 0 ≡ 4096 * f = omega arith in
-    subst (λ (k : ℕ). frame_bytes g (placed k bs m) ≡ frame_bytes g m) start (stored_others f 0 bs m g (omega arith) there other)
-
 -- a frame of zeros leaves the size
 pub zeroed-size : (f : ℕ) (m : List ℕ) → 4096 * f + 4096 ≤ length m → length (zeroed f m) ≡ length m
-zeroed-size f m there = frame-size f (replicate 4096 0) m (length-replicate {A = ℕ} 4096 0) there
+zeroed-size f m there =
+    let size : length {A = ℕ} (replicate 4096 0) ≡ 4096 = length-replicate {A = ℕ} 4096 0 in
+    placed-size (4096 * f) (replicate 4096 0) m (omega arith)
 
 -- and the other frames
 pub zeroed-others : (f : ℕ) (m : List ℕ) (g : ℕ) → 4096 * f + 4096 ≤ length m → (g ≡ f → ⊥) → frame_bytes g (zeroed f m) ≡ frame_bytes g m
-zeroed-others f m g there other = frame-others f (replicate 4096 0) m g (length-replicate {A = ℕ} 4096 0) there other
+zeroed-others f m g there other =
+    let size : length {A = ℕ} (replicate 4096 0) ≡ 4096 = length-replicate {A = ℕ} 4096 0 in
+    let start : 4096 * f + 0 ≡ 4096 * f = omega arith in
+    subst (λ (k : ℕ). frame_bytes g (placed k (replicate 4096 0) m) ≡ frame_bytes g m) start (placed_in_frame f 0 (replicate 4096 0) m (omega arith) there g other)
 
 -- a response leaves the size
 pub responded-size : (k : Connection) (id operation : ℕ) (status : ℤ) (m : List ℕ) → length (responded_memory k id operation status m) ≡ length m
@@ -90,13 +82,7 @@ placed_there k bs m within =
     let rest : List ℕ = drop (k + length bs) m in
     ap (take (length bs)) (drop_at (take k m) (bs ++ rest) k (length-take-le k m (omega arith))) ∙ take_at bs rest (length bs) refl
 
--- a slot lies inside its page
-pub slot_inside : (kind : Kind) (i : ℕ) → slot_start kind i + slot_size kind ≤ 4096
-slot_inside Block i = omega arith
-slot_inside Send i = omega arith
-slot_inside Receive i = omega arith
-
--- and has room for a response of its kind
+-- a slot has room for a response of its kind
 pub response_fits : (kind : Kind) (id operation : ℕ) (status : ℤ) → length (response_bytes kind id operation status) ≤ slot_size kind
 response_fits Block id operation status = omega arith
 response_fits Send id operation status = omega arith

@@ -1,8 +1,9 @@
 -- complete: nothing that the device is asked is refused, and the outcome is good.
-use Rattle.std.proofs.Common.{◌≡◌, ℕ, suc, ◌+◌, ◌*◌, ◌^◌, ◌<◌, ◌≤◌, Bool, true, false, cond, List, [], ◌∷◌, length, get_or, set, ℤ, Some, None, Ok, Err, sum_by, Option, Result, sym, refl, ap, ◌∙◌, subst, inl, inr, arith}
+use Rattle.std.proofs.Common.{◌≡◌, ℕ, ◌+◌, ◌*◌, ◌^◌, ◌<◌, ◌≤◌, true, eqb, List, [], ◌∷◌, length, get_or, set, ℤ, Some, None, Ok, Err, sum_by, Option, Result, sym, refl, ap, ◌∙◌, subst, inl, inr, arith}
 use Rattle.std.proofs.lemmas.List.{get_or-set_same, get_or-set_other, get_or-take, length-take-le}
-use Rattle.std.proofs.lemmas.List.Sums.{sum_by-cons}
-use Rattle.std.proofs.lemmas.Bool.{cases_eq, cond-false}
+use Rattle.std.proofs.lemmas.List.Sums.{sum_by-le}
+use Rattle.std.proofs.lemmas.List.Elements.{All-from_get_or}
+use Rattle.std.proofs.lemmas.Bool.{cases_eq, eqb-true, cond-false}
 use Rattle.abi.specs.declared.page.Kind.{Kind}
 use Rattle.rules.specs.Tables.{at}
 use Rattle.rules.specs.Refusal.{after_ok, if_some}
@@ -17,6 +18,7 @@ use Rattle.frame.specs.Memory.{frame_bytes}
 use Rattle.grant.specs.Tables.{key}
 use Rattle.grant.specs.Map.{mode_of}
 use Rattle.grant.specs.declared.tables.Mapping.{Mapping}
+use Rattle.grant_law.proofs.Places.{by_some}
 use Rattle.request.specs.Content.{id_of, operation_of}
 use Rattle.ring.specs.declared.fault.RingFault.TheVariants.{NoJob}
 use Rattle.connection.specs.Tables.{bay_of, same_bay, in_bay, job_at, connection_at, handles_of, parts_of, with_job}
@@ -32,40 +34,20 @@ use Rattle.law.specs.Serve.{Outcome, responded}
 use Rattle.law.specs.Complete.{closed, finished, completed_job, completed}
 use Rattle.law.specs.Account.{Account, ConnectionNote, JobNote, complete_noted, job_answered, mappings_ended, noted_connection, noted_job, with_response}
 use Rattle.law.specs.Keeps.{Writes, Maps, InSlot, under_ticket, handed, Pairing, noted_pairing, host_pairing, Work, noted_work, host_work}
-use Rattle.law.proofs.Inv.{Links, Requests, BayHeld, Words, SegmentMapped, JobHeld, OrderHeld, RequestHeld, no_part}
-use Rattle.law.proofs.Books.{frame-owned, owns_parts, in_force}
+use Rattle.law.proofs.Inv.{Links, Requests, BayHeld, PartIn, SegmentMapped, JobHeld, OrderHeld, RequestHeld, no_part, Words}
+use Rattle.law.proofs.Books.{frame-owned, in_force, counted_is}
 use Rattle.law.proofs.Links.{connection-noted, job_noted_too, links_completed}
 use Rattle.law.proofs.Requested.{requests-completed}
-use Rattle.law.proofs.Tickets.{taken_inside, same_some, set_taken}
-use Rattle.law.proofs.Released.{AllReleased, segments_released, counted-stands, uncounted}
+use Rattle.law.proofs.Tickets.{taken_inside, same_some, in_bay_is, set_taken}
+use Rattle.law.proofs.Released.{AllReleased, segments_released, uncounted}
 use Rattle.law.proofs.Bytes.{page_there, responded-size, responded-others}
-use Rattle.law.proofs.Altered.{PartIn, filled-others}
-use Rattle.law.proofs.Marks.{words_kept, responded_words}
+use Rattle.law.proofs.Altered.{filled-others}
+use Rattle.law.proofs.Marks.{responded_words, words_kept}
 use Rattle.law.proofs.Bays.{under_done, turn_order}
 use Rattle.law.proofs.Moves.{moved_orders, moves_granted, done_granted, moved_size}
-use Rattle.law.proofs.Cases.{by_either, by_some}
-use Rattle.law.proofs.Outcomes.{HostInv, page-written, OutcomeGood}
+use Rattle.law.proofs.Cases.{by_either, ok_same}
+use Rattle.law.proofs.Outcomes.{HostInv, page-written, page_exists, OutcomeGood}
 use Rattle.law.proofs.Serving.{outcome_same, response_noted, bays_apart}
-
--- parts of at most 4,096 bytes
-few_bytes : (ps : List Part) → ((i : ℕ) → i < length ps → (get_or ps i no_part).length ≤ 4096) → sum_by (λ (p : Part). p.length) ps ≤ 4096 * length ps
-few_bytes [] h = omega arith
-few_bytes (p ∷ ps) h =
-    let first : p.length ≤ 4096 = h 0 (omega arith) in
-    let rest = few_bytes ps (λ i l. h (suc i) (omega arith)) in
-    omega (arith, sum_by-cons (λ (q : Part). q.length) p ps)
-
-ok_same : {T E : Type 0} (x y : T) → ◌≡◌ {A = Result T E} (Ok x) (Ok y) → x ≡ y
-ok_same x y e = cc
-
--- the job in the bay
-in_bay_is : (b : Bay) (o : Option Job) (j : Job) → in_bay b o ≡ Some j → (o ≡ Some j) × (same_bay (bay_of j.kind) b ≡ true)
-in_bay_is b None j e = absurd (let z : ◌≡◌ {A = ℕ} 0 1 = cc in omega arith)
-in_bay_is b (Some x) j e = by (same_bay (bay_of x.kind) b) refl e
-  where
-    by : (v : Bool) → same_bay (bay_of x.kind) b ≡ v → cond v (Some x) None ≡ Some j → (Some x ≡ Some j) × (same_bay (bay_of j.kind) b ≡ true)
-    by true q r = (r, subst (λ (y : Job). same_bay (bay_of y.kind) b ≡ true) (same_some (Some x) x j refl r) q)
-    by false q r = absurd (let z : ◌≡◌ {A = ℕ} 0 1 = cc in omega arith)
 
 -- each segment of a job lies in a frame that domain 0 has mapped
 module _ (a : Account) (H : Tables) (m : List ℕ) (i : HostInv a H m) (t : ℕ) (j : Job) (there : at H.rings.jobs t ≡ Some j) where
@@ -87,10 +69,10 @@ module _ (a : Account) (H : Tables) (m : List ℕ) (i : HostInv a H m) (t : ℕ)
   pub segment-frame : (n : ℕ) (l : n < length (parts_of j)) → (segment n l).mapping.frame < H.frames.count
   segment-frame n l =
       let s = segment n l in
-      (owns_parts H.frames s.mapping.owner s.mapping.frame (frame-owned H.frames H.grants a i.books 0 (get_or j.handles n 0) s.mapping (omega arith) s.below s.there)).0
+      (frame-owned H.frames H.grants a i.books 0 (get_or j.handles n 0) s.mapping (omega arith) s.below s.there).0
 
   pub segment_in : (n : ℕ) (l : n < length (parts_of j)) → PartIn (get_or (parts_of j) n no_part) (segment n l).mapping.frame
-  segment_in n l = let s = segment n l in record { offset = s.offset; start = s.start; inside = s.inside }
+  segment_in n l = (segment n l).lies
 
   -- domain 0 has it mapped, by the account
   pub segment-maps : (n : ℕ) (l : n < length (parts_of j)) → Maps a 0 (segment n l).mapping.frame
@@ -111,11 +93,12 @@ module _ (a : Account) (H : Tables) (m : List ℕ) (i : HostInv a H m) (t : ℕ)
   inside-memory n l =
       let s = segment n l in
       let page = page_there H.frames.count s.mapping.frame m i.memory (segment-frame n l) in
-      omega (arith, s.start, s.inside)
+      omega (arith, s.lies.start, s.lies.inside)
 
   bytes_below : sum_by (λ (p : Part). p.length) (parts_of j) < 2 ^ 32
   bytes_below =
-      let sum = few_bytes (parts_of j) (λ n l. let s = segment n l in let e : (get_or (parts_of j) n no_part).length ≤ 4096 = omega (arith, s.inside) in e) in
+      let few = All-from_get_or (λ (p : Part). p.length ≤ 4096) (parts_of j) no_part (λ n l. let s = segment n l in let e : (get_or (parts_of j) n no_part).length ≤ 4096 = omega (arith, s.lies.inside) in e) in
+      let sum = sum_by-le (λ (p : Part). p.length) 4096 (parts_of j) few in
       omega (arith, sum, parts-count, job-is-held.few)
 
   -- all of that of one segment: its frame is the memory's, and domain 0 has it mapped
@@ -224,10 +207,8 @@ module _ {X : Type 0} (D : Rules X) (laws : Laws D) (b : Bay) (a : Account) (H :
 
       page-inside : 4096 * k.page + 4096 ≤ length memory-then
       page-inside =
-          let p = i.links.page j.connection k live in
-          let own = frame-owned H.frames H.grants a i.books 0 k.handle p.mapping (omega arith) p.below p.there in
-          let exists : k.page < H.frames.count = subst (λ f. f < H.frames.count) p.frame (owns_parts H.frames p.mapping.owner p.mapping.frame own).0 in
-          page_there H.frames.count k.page memory-then (moved_size D laws j.direction t (parts_of j) m x ∙ i.memory) exists
+          page_there H.frames.count k.page memory-then (moved_size D laws j.direction t (parts_of j) m x ∙ i.memory)
+          (page_exists a H m i k (i.links.page j.connection k live))
 
       abbrev status : ℤ
       status = D.status device-then note.order
@@ -253,7 +234,7 @@ module _ {X : Type 0} (D : Rules X) (laws : Laws D) (b : Bay) (a : Account) (H :
                   (subst (λ js. Links (released_all (handles_of j) H.grants).handles (responded_rings j.connection k (with_job t None H.rings)) (set a.connections j.connection (Some (with_response note.index old))) (set js t None)) (sym all.jobs)
                   (links_completed H.grants.handles (released_all (handles_of j) H.grants).handles H.rings a.connections a.jobs t j k old note.index there live old-there
                   (λ h l none. all.others (key 0 h) (λ n n-below e. uncounted (handles_of j) h n none n-below (let z : get_or (handles_of j) n 0 ≡ h = omega arith in z)))
-                  (λ h l some. let p = counted-stands (handles_of j) h some in subst (λ y. at (released_all (handles_of j) H.grants).handles (key 0 y) ≡ None) p.1.1 (all.free p.0 p.1.0))
+                  (λ h l some. let p = counted_is (λ y. eqb y h) 0 (handles_of j) some in subst (λ y. at (released_all (handles_of j) H.grants).handles (key 0 y) ≡ None) (eqb-true _ h p.1.1) (all.free p.0 p.1.0))
                   i.links));
               requests = subst (λ cs. Requests (set H.rings.jobs t None) cs (set (mappings_ended (handles_of j) (answered j.connection)).jobs t None)) (sym all.connections)
                   (subst (λ js. Requests (set H.rings.jobs t None) (set a.connections j.connection (Some (with_response note.index old))) (set js t None)) (sym all.jobs)

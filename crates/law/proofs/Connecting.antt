@@ -1,6 +1,7 @@
 -- connect and disconnect.
 use Rattle.std.proofs.Common.{◌≡◌, ℕ, ◌+◌, ◌<◌, Bool, true, false, not, [], ◌∷◌, length, get_or, set, is_some, Some, None, Ok, Err, Option, Result, unwrap_or, sym, refl, ap, ◌∙◌, subst, inl, inr, arith}
-use Rattle.std.proofs.lemmas.Bool.{cases_eq, not-false, both_ways}
+use Rattle.std.proofs.lemmas.Option.{same_Some}
+use Rattle.std.proofs.lemmas.Bool.{cases_eq, not-false}
 use Rattle.abi.specs.declared.page.Kind.TheVariants.{Block}
 use Rattle.rules.specs.Tables.{at}
 use Rattle.rules.specs.Refusal.{refuse_first, passed, if_some}
@@ -13,7 +14,8 @@ use Rattle.grant.specs.Pin.{released}
 use Rattle.grant.specs.declared.tables.Mapping.{Mapping}
 use Rattle.grant.specs.declared.tables.Mode.TheVariants.{Write}
 use Rattle.grant.specs.declared.fault.GrantFault.{GrantFault}
-use Rattle.event.specs.Pending.{word, bit, dropped}
+use Rattle.grant_law.proofs.Verdicts.{Accepted, some_value, map_accepted}
+use Rattle.event.specs.Pending.{dropped, word, bit}
 use Rattle.ring.specs.Page.{fresh_header}
 use Rattle.ring.specs.declared.fault.RingFault.{RingFault}
 use Rattle.ring.specs.declared.fault.RingFault.TheVariants.{BadKind, NoConnection, NotLive, HasJobs, OfGrant}
@@ -33,14 +35,13 @@ use Rattle.law.specs.Step.{proceeds}
 use Rattle.law.specs.Account.{Account, ConnectionNote, accepted, next_handle, mapping_noted, mapping_ended, noted_connection, disconnect_noted}
 use Rattle.law.specs.Keeps.{Pairing}
 use Rattle.law.proofs.Inv.{Inv, Links, Requests, BayHeld, Words}
-use Rattle.law.proofs.Books.{MapAccepted, map-accepted, books_pinned, books_unpinned, owns_parts, next_handle_same}
-use Rattle.law.proofs.Released.{released-handles}
+use Rattle.law.proofs.Books.{books_pinned, books_unpinned, owns_parts, next_handle_same}
+use Rattle.law.proofs.Released.{released-handles, ended_rest}
 use Rattle.law.proofs.Links.{links_opened, links_closed, connection-noted, no_connection_noted}
 use Rattle.law.proofs.Requested.{requests_opened, requests-closed}
 use Rattle.law.proofs.Tickets.{at_set, taken_inside}
 use Rattle.law.proofs.Bytes.{put_size, put_others}
 use Rattle.law.proofs.Marks.{words_opened, words_closed, unmarked}
-use Rattle.law.proofs.Simple.{ended_keeps}
 use Rattle.law.proofs.Good.{Good, Unbroken, after, good_by, no_response}
 
 passed_ok : {T E G : Type 0} (g : E → G) (r : Result T E) (t : T) → passed g r ≡ Ok t → r ≡ Ok t
@@ -54,16 +55,8 @@ connect_unbroken false true r e q x z = let z : ◌≡◌ {A = ℕ} 0 1 = cc in 
 connect_unbroken false false (Ok g) e q x z = let z : ◌≡◌ {A = ℕ} 0 1 = cc in omega arith
 connect_unbroken false false (Err f) e q x z = let z : ◌≡◌ {A = ℕ} 0 1 = cc in omega arith
 
-some_same : {X : Type 0} (x y : X) → Some x ≡ Some y → x ≡ y
-some_same x y e = cc
-
 number_is : (c n : ℕ) → ◌≡◌ {A = Result Answer HostFault} (Ok (Connected c)) (Ok (Connected n)) → c ≡ n
 number_is c n e = cc
-
--- the free connection that there is
-some_free : {X : Type 0} (o : Option X) (d : X) → is_some o ≡ true → o ≡ Some (unwrap_or o d)
-some_free None d e = absurd (both_ways false refl e)
-some_free (Some x) d e = refl
 
 module _ {M N : Type 0} (R : Rules M) (S : Rules N) (pick : ℕ → ℕ) (a : Account) (w : World M N) (i : Inv R S a w) where
   abbrev H : Tables
@@ -77,8 +70,8 @@ module _ {M N : Type 0} (R : Rules M) (S : Rules N) (pick : ℕ → ℕ) (a : Ac
     mapped-ok : map_verdict H.frames H.grants 0 d reference 1 ≡ Ok g
     mapped-ok = passed_ok OfGrant (map_verdict H.frames H.grants 0 d reference 1) g fine.1
 
-    accepted-map : MapAccepted H.frames H.grants 0 d reference 1 g
-    accepted-map = map-accepted H.frames H.grants 0 d reference 1 g (omega arith) i.books.sound.handles_size mapped-ok
+    accepted-map : Accepted H.frames H.grants 0 d reference 1 g
+    accepted-map = map_accepted H.frames H.grants 0 d reference 1 g (omega arith) i.books.sound.handles_size mapped-ok
 
     -- the connection's number, and that it was free
     number : ℕ
@@ -86,7 +79,7 @@ module _ {M N : Type 0} (R : Rules M) (S : Rules N) (pick : ℕ → ℕ) (a : Ac
 
     free : (j : ℕ) × (number ≡ 0 + j) × (j < length H.rings.connections) × (at H.rings.connections j ≡ None)
     unfolding number
-    free = first_free_is H.rings.connections 0 number (some_free (free_connection H.rings.connections) 0 (not-false _ fine.0.1.0))
+    free = first_free_is H.rings.connections 0 number (some_value (free_connection H.rings.connections) 0 number (not-false _ fine.0.1.0) refl)
 
     number-below : number < 6
     number-below = omega (arith, free.1, free.2, i.links.connections-size)
@@ -102,7 +95,7 @@ module _ {M N : Type 0} (R : Rules M) (S : Rules N) (pick : ℕ → ℕ) (a : Ac
     handle-same = ap (λ (o : Option ℕ). unwrap_or o 0) (next_handle_same H.frames H.grants a i.books ∙ accepted-map.lowest_is)
 
     page-same : (get_or a.entries (place d reference) blank).frame ≡ g.mapping.frame
-    page-same = sym (ap (λ (p : Mapping). p.frame) accepted-map.mapping ∙ i.books.frame_same (place d reference))
+    page-same = sym (ap (λ (p : Mapping). p.frame) accepted-map.made ∙ i.books.frame_same (place d reference))
 
     note-with : ℕ → ℕ → ConnectionNote
     note-with page h = record { kind = unwrap_or (kind_numbered kind) Block; guest = d; page = page; handle = h; requests = []; answered = [] }
@@ -122,8 +115,8 @@ module _ {M N : Type 0} (R : Rules M) (S : Rules N) (pick : ℕ → ℕ) (a : Ac
       books = books_pinned H.frames H.grants a 0 d reference 1 g (omega arith) mapped-ok i.books;
       links = links_opened H.grants.handles H.rings a.connections a.jobs number (new_connection d kind g) (note-with g.mapping.frame g.handle) g.mapping
           i.books.sound.handles_size number-below was_free accepted-map.handle accepted-map.free refl
-          (ap (λ (p : Mapping). p.mode) accepted-map.mapping) refl (record { consumed = refl; produced = refl }) i.links;
-      requests = requests_opened H.grants.handles H.rings a.connections a.jobs number (note-with g.mapping.frame g.handle) was_free refl refl i.links i.requests;
+          (ap (λ (p : Mapping). p.mode) accepted-map.made) refl (record { consumed = refl; produced = refl }) i.links;
+      requests = requests_opened H.grants.handles H.rings a.connections a.jobs i.links number (note-with g.mapping.frame g.handle) was_free refl refl i.requests;
       bay0 = i.bay0;
       bay1 = i.bay1;
       words = words_opened H.events a.connections number (note-with g.mapping.frame g.handle) note_free i.words;
@@ -141,7 +134,7 @@ module _ {M N : Type 0} (R : Rules M) (S : Rules N) (pick : ℕ → ℕ) (a : Ac
       ];
       response = λ c j n q there low high at-index. elim (at_set a.connections number c (Some (note-with g.mapping.frame g.handle)) n there) [
         | inl e ↦ absurd (
-            let same : note-with g.mapping.frame g.handle ≡ n = some_same _ _ e.1 in
+            let same : note-with g.mapping.frame g.handle ≡ n = same_Some _ _ e.1 in
             let none : 0 ≡ length n.answered = ap (λ (x : ConnectionNote). length x.answered) same in
             omega arith)
         | inr other ↦ no_response a a refl c j n other.1 low high
@@ -194,7 +187,7 @@ module _ {M N : Type 0} (R : Rules M) (S : Rules N) (pick : ℕ → ℕ) (a : Ac
     unfolding ended-with
     disconnected-good =
         let below = (i.links.page c k live).below in
-        let same = ended_keeps 0 k.handle a in
+        let same = ended_rest 0 k.handle a in
         let noted = connection-noted H.grants.handles H.rings a.connections a.jobs i.links c k live in
         let hs : (released 0 k.handle H.grants).handles ≡ set H.grants.handles (key 0 k.handle) None = released-handles 0 k.handle H.grants below in
         record {
@@ -203,24 +196,24 @@ module _ {M N : Type 0} (R : Rules M) (S : Rules N) (pick : ℕ → ℕ) (a : Ac
             memory = i.memory;
             books = books_unpinned H.frames H.grants a 0 k.handle (omega arith) below i.books;
             links = subst (λ hs'. Links hs' (with_connection c None H.rings) (set (mapping_ended 0 k.handle a).connections c None) (mapping_ended 0 k.handle a).jobs) (sym hs)
-                (subst (λ cs. Links (set H.grants.handles (key 0 k.handle) None) (with_connection c None H.rings) (set cs c None) (mapping_ended 0 k.handle a).jobs) (sym same.0)
-                (subst (λ js. Links (set H.grants.handles (key 0 k.handle) None) (with_connection c None H.rings) (set a.connections c None) js) (sym same.1)
+                (subst (λ cs. Links (set H.grants.handles (key 0 k.handle) None) (with_connection c None H.rings) (set cs c None) (mapping_ended 0 k.handle a).jobs) (sym same.connections)
+                (subst (λ js. Links (set H.grants.handles (key 0 k.handle) None) (with_connection c None H.rings) (set a.connections c None) js) (sym same.jobs)
                 (links_closed H.grants.handles H.rings a.connections a.jobs c k i.books.sound.handles_size live idle i.links)));
-            requests = subst (λ cs. Requests H.rings.jobs (set cs c None) (mapping_ended 0 k.handle a).jobs) (sym same.0)
-                (subst (λ js. Requests H.rings.jobs (set a.connections c None) js) (sym same.1)
+            requests = subst (λ cs. Requests H.rings.jobs (set cs c None) (mapping_ended 0 k.handle a).jobs) (sym same.connections)
+                (subst (λ js. Requests H.rings.jobs (set a.connections c None) js) (sym same.jobs)
                 (requests-closed H.grants.handles H.rings a.connections a.jobs c k live idle i.links i.requests));
-            bay0 = subst (λ js. BayHeld R w.bay0 BlockBay js) (sym same.1) i.bay0;
-            bay1 = subst (λ js. BayHeld S w.bay1 NetBay js) (sym same.1) i.bay1;
-            words = subst (λ cs. Words (dropped 0 (port_of c) (dropped k.guest (port_of c) H.events)) (set cs c None)) (sym same.0)
+            bay0 = subst (λ js. BayHeld R w.bay0 BlockBay js) (sym same.jobs) i.bay0;
+            bay1 = subst (λ js. BayHeld S w.bay1 NetBay js) (sym same.jobs) i.bay1;
+            words = subst (λ cs. Words (dropped 0 (port_of c) (dropped k.guest (port_of c) H.events)) (set cs c None)) (sym same.connections)
                 (subst (λ g. Words (dropped 0 (port_of c) (dropped g (port_of c) H.events)) (set a.connections c None)) (ap (λ (p : Pairing). p.guest) noted.1.1)
                 (words_closed H.events a.connections c noted.0 (omega (arith, taken_inside H.rings.connections c k live, i.links.connections-size)) noted.1.0 i.words));
           };
           count = refl;
-          owner = λ f h. ap (λ os. at os f) same.2;
+          owner = λ f h. ap (λ os. at os f) same.owners;
           alters = λ f h mine wr. refl;
           response = λ c' j n q there low high at-index. elim (at_set (mapping_ended 0 k.handle a).connections c c' None n there) [
             | inl e ↦ absurd (let z : None ≡ Some n = e.1 in let y : ◌≡◌ {A = ℕ} 0 1 = cc in omega arith)
-            | inr other ↦ no_response a a refl c' j n (ap (λ cs. at cs c') (sym same.0) ∙ other.1) low high
+            | inr other ↦ no_response a a refl c' j n (ap (λ cs. at cs c') (sym same.connections) ∙ other.1) low high
           ];
           unbroken = λ x e. let z : ◌≡◌ {A = ℕ} 0 1 = cc in omega arith;
           pending = λ d' p e z. absurd (let z : ◌≡◌ {A = ℕ} 0 1 = cc in omega arith);

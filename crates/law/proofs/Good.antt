@@ -26,13 +26,17 @@ use Rattle.law.proofs.Requested.{answers_one, answers-once}
 abbrev pub Unbroken : HostFault → Type 0
 Unbroken f = (x : DeviceFault) → f ≡ InRing (OfDevice x) → ⊥
 
--- no response was written where the connections' notes are as before
+-- no response was written where a connection's answers are as before
+pub no_answer : {X : Type 0} (a : Account) (c j : ℕ) (old n : ConnectionNote) → at a.connections c ≡ Some old → n.answered ≡ old.answered → responses a c ≤ j → j < length n.answered → X
+no_answer a c j old n there same low high =
+    let many : responses a c ≡ length old.answered = ap (λ (o : Option ConnectionNote). if_some {Y = ℕ} o 0 (λ x. length x.answered)) there in
+    let long : length n.answered ≡ length old.answered = ap length same in
+    absurd (omega arith)
+
+-- nor where the connections' notes are
 pub no_response : {X : Type 0} (a b : Account) → b.connections ≡ a.connections → (k j : ℕ) (n : ConnectionNote) → at b.connections k ≡ Some n
     → responses a k ≤ j → j < length n.answered → X
-no_response a b e k j n h low high =
-    let there : at a.connections k ≡ Some n = ap (λ cs. at cs k) (sym e) ∙ h in
-    let many : responses a k ≡ length n.answered = ap (λ (o : Option ConnectionNote). if_some {Y = ℕ} o 0 (λ x. length x.answered)) there in
-    absurd (omega (arith, many))
+no_response a b e k j n h low high = no_answer a k j n n (ap (λ cs. at cs k) (sym e) ∙ h) refl low high
 
 module _ {M N : Type 0} (R : Rules M) (S : Rules N) (pick : ℕ → ℕ) where
   -- the account after the call and its reply

@@ -69,14 +69,18 @@ pub record PageMapped (hs : List (Option Mapping)) (k : Connection) : Type 0 whe
   pub frame : mapping.frame ≡ k.page
   pub mode : mapping.mode ≡ Write
 
+-- the part p lies in the frame f
+pub record PartIn (p : Part) (f : ℕ) : Type 0 where
+  pub offset : ℕ
+  pub start : p.start ≡ 4096 * f + offset
+  pub inside : offset + p.length ≤ 4096
+
 -- domain 0 has the part p mapped under the handle h, in the mode that the direction wants
 pub record SegmentMapped (hs : List (Option Mapping)) (way : Direction) (h : ℕ) (p : Part) : Type 0 where
   pub mapping : Mapping
   pub below : h < 64
   pub there : at hs (key 0 h) ≡ Some mapping
-  pub offset : ℕ
-  pub start : p.start ≡ 4096 * mapping.frame + offset
-  pub inside : offset + p.length ≤ 4096
+  pub lies : PartIn p mapping.frame
   pub mode : mapping.mode ≡ mode_of (mode_for way)
 
 abbrev pub no_part : Part

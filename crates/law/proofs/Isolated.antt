@@ -28,7 +28,8 @@ use Rattle.law.proofs.Books.{books_start}
 use Rattle.law.proofs.Links.{links_start}
 use Rattle.law.proofs.Requested.{requests-start}
 use Rattle.law.proofs.Marks.{words_start}
-use Rattle.law.proofs.Tickets.{at-replicate}
+use Rattle.grant_law.proofs.Places.{at-replicate}
+use Rattle.law.proofs.Cases.{ok_same}
 use Rattle.law.proofs.Good.{Good, Unbroken, after, good_refused, law_of-step}
 use Rattle.law.proofs.Simple.{good_take, good_give, good_load, good_store, good_entry, good_end, good_map, good_unmap, good_send, good_next}
 use Rattle.law.proofs.Connecting.{good_connect, good_disconnect}
@@ -44,13 +45,6 @@ guest_unbroken true q f e x z = let y : ◌≡◌ {A = ℕ} 0 1 = cc in omega ar
 guest_unbroken false true f e x z = let y : ◌≡◌ {A = ℕ} 0 1 = cc in omega arith
 guest_unbroken false false f e x z = let y : ◌≡◌ {A = ℕ} 0 1 = cc in omega arith
 
-memory_unbroken : (p : Bool) (f : HostFault) → refuse_first {T = Unit} ((p, BadMemory) ∷ []) (Ok tt) ≡ Err f → Unbroken f
-memory_unbroken true f e x z = let y : ◌≡◌ {A = ℕ} 0 1 = cc in omega arith
-memory_unbroken false f e x z = let y : ◌≡◌ {A = ℕ} 0 1 = cc in omega arith
-
-ok_is : {T E : Type 0} (x y : T) → ◌≡◌ {A = Result T E} (Ok x) (Ok y) → x ≡ y
-ok_is x y e = cc
-
 module _ {M N : Type 0} (R : Rules M) (S : Rules N) (pick : ℕ → ℕ) where
   host-unbroken : (w : World M N) (c : Call) (f : HostFault) → refuse_first {T = Unit} (host_rules R S pick w c) (Ok tt) ≡ Err f → Unbroken f
   host-unbroken w (Take d f) e q = guest_unbroken (wrong_memory w.host w.memory) (eqb d 0 || ltb 7 d) e q
@@ -64,9 +58,9 @@ module _ {M N : Type 0} (R : Rules M) (S : Rules N) (pick : ℕ → ℕ) where
   host-unbroken w (Send d p) e q = guest_unbroken (wrong_memory w.host w.memory) (eqb d 0 || ltb 7 d) e q
   host-unbroken w (Next d) e q = guest_unbroken (wrong_memory w.host w.memory) (ltb 7 d) e q
   host-unbroken w (Connect d k n) e q = guest_unbroken (wrong_memory w.host w.memory) (eqb d 0 || ltb 7 d) e q
-  host-unbroken w (Serve c) e q = memory_unbroken (wrong_memory w.host w.memory) e q
-  host-unbroken w (Complete b) e q = memory_unbroken (wrong_memory w.host w.memory) e q
-  host-unbroken w (Disconnect c) e q = memory_unbroken (wrong_memory w.host w.memory) e q
+  host-unbroken w (Serve c) e q = guest_unbroken (wrong_memory w.host w.memory) false e q
+  host-unbroken w (Complete b) e q = guest_unbroken (wrong_memory w.host w.memory) false e q
+  host-unbroken w (Disconnect c) e q = guest_unbroken (wrong_memory w.host w.memory) false e q
 
   -- a caller that is a guest
   guest : (w : World M N) (d : ℕ) → refuse_first {T = Unit} (guest_rules w.host w.memory d) (Ok tt) ≡ Ok tt → (0 < d) × (d < 8)
@@ -149,7 +143,7 @@ module _ {M N : Type 0} (R : Rules M) (S : Rules N) (pick : ℕ → ℕ) where
   unfolding started new_host nothing_yet
   start-inv w s =
       let none = none-held (start_rules s.count w.memory) (Ok (new_host s.count)) w.host s.new in
-      let host : new_host s.count ≡ w.host = ok_is _ _ none.1 in
+      let host : new_host s.count ≡ w.host = ok_same _ _ none.1 in
       let parts = or_parts _ _ none.0.0 in
       let few : s.count ≤ 256 = ltb-false 256 s.count (or_parts _ _ parts.0).1 in
       let size : length w.memory ≡ 4096 * s.count = eqb-true (length w.memory) (4096 * s.count) (not-false _ parts.1) in

@@ -27,21 +27,21 @@ use Rattle.ring.specs.declared.fault.RingFault.TheVariants.{Busy, NoJob, NotLive
 use Rattle.request.specs.Check.{miss}
 use Rattle.request.specs.Checked.{check_verdict}
 use Rattle.request.specs.Content.{Asked}
-use Rattle.connection.specs.Tables.{connection_at, job_at, in_bay, parts_of, has_two_jobs, same_bay, bay_of, next_ticket, with_job, handles_of}
+use Rattle.connection.specs.Tables.{connection_at, job_at, in_bay, parts_of, has_two_jobs, next_ticket, handles_of}
 use Rattle.connection.specs.declared.kinds.Bay.{Bay}
 use Rattle.connection.specs.declared.tables.Connection.{Connection}
 use Rattle.connection.specs.declared.tables.Job.{Job}
 use Rattle.backend.specs.Look.{look, next_request, event_asked, consumed, consumed_on}
 use Rattle.backend.specs.Move.{moving, moved_memory, moved_device}
 use Rattle.backend.specs.Respond.{responded_memory}
-use Rattle.backend.specs.Segments.{MappingDone, pin_all, released_all, job_for, order_for}
+use Rattle.backend.specs.Segments.{MappingDone, released_all, order_for}
 use Rattle.backend.specs.declared.tables.Tables.{Tables}
 use Rattle.answer.specs.declared.reply.Answer.TheVariants.{Idle, HandedOver, Completed}
 use Rattle.law.specs.World.{with_grants, with_rings}
-use Rattle.law.specs.Serve.{Outcome, responded, answered_now, handed_over, segments_mapped, spent, served_on, served}
+use Rattle.law.specs.Serve.{Outcome, responded, mapping_for, with_handed, answered_now, handed_over, segments_mapped, spent, served_on, served}
 use Rattle.law.specs.Complete.{closed, broken_off, finished, completed_job, completed}
-use Rattle.law.proofs.Inv.{no_part}
-use Rattle.law.proofs.Altered.{PartIn}
+use Rattle.law.proofs.Inv.{PartIn, no_part}
+use Rattle.law.proofs.Tickets.{in_bay_is}
 
 -- bytes of a frame, out of the frame's bytes
 in_frame : (m : List ℕ) (f offset n : ℕ) → offset + n ≤ 4096 → drop offset (take (offset + n) (frame_bytes f m)) ≡ bytes_at (4096 * f + offset) n m
@@ -149,7 +149,7 @@ module _ {X : Type 0} (D : Rules X) (m m' : List ℕ) where
   handed-alike : (c : ℕ) (k : Connection) (q : Request) (a : Asked) (p : MappingDone) (H : Tables) (x : X) → Alike (handed_over D c k q a p H m' x) (handed_over D c k q a p H m x)
   handed-alike c k q a p H x =
       let t : ℕ = next_ticket H.rings.jobs c in
-      let done : List ℕ → Outcome X = λ l. record { answer = Ok HandedOver; host = with_rings (with_job t (Some p.job) H.rings) (with_grants p.grants H); memory = l; device = D.with_order x (order_for t a) } in
+      let done : List ℕ → Outcome X = λ l. record { answer = Ok HandedOver; host = with_handed t p H; memory = l; device = D.with_order x (order_for t a) } in
       let undone : DeviceFault → List ℕ → Outcome X = λ e l. answered_now D c k q (miss (OfDevice e) 0) (with_grants (released_all (handles_of p.job) p.grants) H) l x in
       either_alike (accepting D x (order_for t a)) (λ _. done m') (λ _. done m) (λ e. undone e m') (λ e. undone e m) (λ _. (refl, refl)) (λ e. (refl, refl))
 
@@ -160,7 +160,7 @@ module _ {X : Type 0} (D : Rules X) (m m' : List ℕ) where
       (λ a. segments_mapped D c k q a H m' x) (λ a. segments_mapped D c k q a H m x)
       (λ f. answered_now D c k q f H m' x) (λ f. answered_now D c k q f H m x)
       (λ a.
-      let p : MappingDone = pin_all H.frames k.guest 0 (job_for c k.kind a) H.grants a.spans in
+      let p : MappingDone = mapping_for c k a H in
       some_alike p.fault (handed_over D c k q a p H m' x) (handed_over D c k q a p H m x)
       (λ f. answered_now D c k q f (with_grants p.grants H) m' x) (λ f. answered_now D c k q f (with_grants p.grants H) m x)
       (handed-alike c k q a p H x)
@@ -194,16 +194,6 @@ served_learns {X} D c H m m' x size same =
     let none : List ℕ → Outcome X = λ l. record { answer = Err NotLive; host = H; memory = l; device = x } in
     some_alike (connection_at H.rings c) (none m') (none m) (λ k. served_on D c k H m' x) (λ k. served_on D c k H m x) (refl, refl)
     (λ k live. served-on-alike D m m' c k H x size (same k live))
-
--- a job that passes a test is that job
-kept_if : (b : Bool) (i j : Job) → cond b (Some i) None ≡ Some j → Some i ≡ Some j
-kept_if true i j e = e
-kept_if false i j e = absurd (let z : ◌≡◌ {A = ℕ} 0 1 = cc in omega arith)
-
--- a job of a bay is the job under its ticket
-in_bay_is : (b : Bay) (o : Option Job) (j : Job) → in_bay b o ≡ Some j → o ≡ Some j
-in_bay_is b None j e = e
-in_bay_is b (Some i) j e = kept_if (same_bay (bay_of i.kind) b) i j e
 
 -- what follows when the bytes of a job were moved, with the memory l and the device y
 module _ {X : Type 0} (D : Rules X) (t : ℕ) (j : Job) (H : Tables) where
@@ -255,6 +245,6 @@ completed_learns {X} D b H m m' x size lies =
     (λ t. if_some (in_bay b (job_at H.rings t)) (none m') (λ j. completed_job D t j H m' x)) (λ t. if_some (in_bay b (job_at H.rings t)) (none m) (λ j. completed_job D t j H m x)) (refl, refl)
     (λ t _. some_alike (in_bay b (job_at H.rings t)) (none m') (none m) (λ j. completed_job D t j H m' x) (λ j. completed_job D t j H m x) (refl, refl)
     (λ j there.
-    let same = moved_same D j.direction t (parts_of j) x m m' size (lies t j (in_bay_is b (job_at H.rings t) j there)) in
+    let same = moved_same D j.direction t (parts_of j) x m m' size (lies t j (in_bay_is b (job_at H.rings t) j there).0) in
     ended_same D t j H (moving D j.direction t (parts_of j) m' x) (moving D j.direction t (parts_of j) m x) (moved_device D j.direction t (parts_of j) m' x) (moved_device D j.direction t (parts_of j) m x)
     (moved_memory D j.direction t (parts_of j) m' x) (moved_memory D j.direction t (parts_of j) m x) same.0 same.1))

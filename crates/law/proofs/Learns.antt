@@ -1,5 +1,5 @@
 -- Other bytes where a call's domain may not look would have changed neither its answer nor a device.
-use Rattle.std.proofs.Common.{◌≡◌, ℕ, ◌+◌, ◌*◌, ◌<◌, ◌≤◌, Bool, true, false, cond, not, ◌||◌, eqb, ltb, ◌⊎◌, List, [], ◌∷◌, length, get_or, Some, None, Ok, Err, Result, sym, refl, ap, ◌∙◌, subst, inl, inr, arith}
+use Rattle.std.proofs.Common.{◌≡◌, ℕ, ◌+◌, ◌*◌, ◌<◌, ◌≤◌, Bool, true, false, cond, not, ◌||◌, eqb, ltb, ◌⊎◌, List, [], ◌∷◌, length, get_or, Some, None, Ok, Err, Result, sym, refl, ap, ◌∙◌, subst, inl, inr}
 use Rattle.std.proofs.lemmas.Bool.{not-false, ltb-true, ltb-false, or_cases}
 use Rattle.rules.specs.Tables.{at}
 use Rattle.rules.specs.Refusal.{Rule, refuse_first, after_ok, either_of}
@@ -30,12 +30,11 @@ use Rattle.law.specs.Connect.{connect_verdict, new_number, connected, connected_
 use Rattle.law.specs.Step.{Ends, step, proceeds, by_verdict, send_rules, next_port, host_rules, told, passed_up, served_in, completed_in, serving_bay, bay_rules, bay_numbered}
 use Rattle.law.specs.Account.{Account}
 use Rattle.law.specs.Keeps.{Owns, Maps}
-use Rattle.law.proofs.Inv.{Inv, no_part}
-use Rattle.law.proofs.Books.{owns_parts, maps_from, frame-owned}
-use Rattle.law.proofs.Altered.{PartIn}
+use Rattle.law.proofs.Inv.{Inv, PartIn, no_part}
+use Rattle.law.proofs.Books.{owns_parts, maps_from}
 use Rattle.law.proofs.Learned.{bytes_from-frame, served_learns, completed_learns}
 use Rattle.law.proofs.Good.{Learns}
-use Rattle.law.proofs.Outcomes.{host_inv, page-written}
+use Rattle.law.proofs.Outcomes.{host_inv, page-written, page_exists}
 use Rattle.law.proofs.Completing.{segment_facts}
 
 -- what is refused goes by the size of the memory alone
@@ -115,10 +114,9 @@ module _ {M N : Type 0} (R : Rules M) (S : Rules N) (pick : ℕ → ℕ) (a : Ac
     where
       page : (k : Connection) → connection_at w.host.rings c ≡ Some k → frame_bytes k.page m ≡ frame_bytes k.page w.memory
       page k live =
+          let h = host_inv R S a w i in
           let p = i.links.page c k live in
-          let own = frame-owned w.host.frames w.host.grants a i.books 0 k.handle p.mapping (omega arith) p.below p.there in
-          let exists : k.page < w.host.frames.count = subst (λ f. f < w.host.frames.count) p.frame (owns_parts w.host.frames p.mapping.owner p.mapping.frame own).0 in
-          same k.page exists (inr (page-written a w.host w.memory (host_inv R S a w i) k p).maps)
+          same k.page (page_exists a w.host w.memory h k p) (inr (page-written a w.host w.memory h k p).maps)
 
       by : (b : Bay) → Alike (served_in R S b c (with_memory m w)) (served_in R S b c w)
       by BlockBay = let l = served_learns R c w.host w.memory m w.bay0 size page in (ap (λ r. told (passed_up InRing (λ z. z) r)) l.0, l.1, refl)

@@ -1,8 +1,9 @@
 -- The host's connections and jobs stay the account's, and domain 0's handles stay theirs.
-use Rattle.std.proofs.Common.{◌≡◌, ℕ, zero, suc, ◌+◌, ◌*◌, ◌<◌, ◌≤◌, Bool, true, false, cond, eqb, List, length, get_or, take, set, replicate, is_some, Some, None, sum_by, count_by, Option, sym, refl, ap, ◌∙◌, subst, inl, inr, arith}
+use Rattle.std.proofs.Common.{◌≡◌, ℕ, ◌+◌, ◌*◌, ◌<◌, ◌≤◌, Bool, true, false, cond, eqb, List, length, get_or, take, set, replicate, is_some, Some, None, sum_by, count_by, Option, sym, refl, ap, ◌∙◌, subst, inl, inr, arith}
 use Rattle.std.specs.Option.{option_map}
 use Rattle.std.proofs.lemmas.List.{get_or-set_same, get_or-set_other, get_or-take, length-set, length-map, length-take-le, length_push, set-set}
 use Rattle.std.proofs.lemmas.List.Sums.{sum_by-set, get_or-le-sum_by}
+use Rattle.std.proofs.lemmas.List.Folds.{sum_by-replicate}
 use Rattle.std.proofs.lemmas.Bool.{cases_eq, cases_lt, eq-eqb, ne_eqb, or_parts, both_ways}
 use Rattle.abi.specs.Index.{shown}
 use Rattle.rules.specs.Tables.{at}
@@ -18,10 +19,11 @@ use Rattle.connection.specs.declared.tables.Job.{Job}
 use Rattle.connection.specs.declared.tables.Rings.{Rings}
 use Rattle.backend.specs.Look.{consumed, consumed_on, next_index}
 use Rattle.backend.specs.Respond.{responded_rings}
+use Rattle.grant_law.proofs.Places.{at-replicate, counted_more, counted_less}
 use Rattle.law.specs.Account.{ConnectionNote, JobNote, with_request, with_response}
 use Rattle.law.specs.Keeps.{Pairing, host_pairing, noted_pairing, host_work, noted_work, Counted}
 use Rattle.law.proofs.Inv.{Links, PageMapped, SegmentMapped, JobHeld, ring_has, segments_with, handle_uses, no_part}
-use Rattle.law.proofs.Tickets.{none_some, same_some, taken_inside, at_set, set_taken, at-replicate, mapped_too, free_too, same_places, same_some_ness, same_set, two_in_sum, free_ticket, ticket_range}
+use Rattle.law.proofs.Tickets.{none_some, same_some, taken_inside, at_set, set_taken, mapped_too, same_places, same_some_ness, same_set, two_in_sum, free_ticket, ticket_range, free_too}
 
 -- the host's tables and the account's are taken or free at the same places
 module _ (hs : List (Option Mapping)) (C : Rings) (conns : List (Option ConnectionNote)) (jobs : List (Option JobNote)) (L : Links hs C conns jobs) where
@@ -30,9 +32,6 @@ module _ (hs : List (Option Mapping)) (C : Rings) (conns : List (Option Connecti
 
   pub no_connection_noted : (c : ℕ) → at C.connections c ≡ None → at conns c ≡ None
   no_connection_noted c e = free_too host_pairing noted_pairing (at C.connections c) (at conns c) (same_places host_pairing noted_pairing C.connections conns L.connections_same c) e
-
-  pub no_job_noted : (t : ℕ) → at C.jobs t ≡ None → at jobs t ≡ None
-  no_job_noted t e = free_too host_work noted_work (at C.jobs t) (at jobs t) (same_places host_work noted_work C.jobs jobs L.jobs_same t) e
 
   pub job_noted_too : (t : ℕ) (j : Job) → at C.jobs t ≡ Some j → (x : JobNote) × ((at jobs t ≡ Some x) × (noted_work x ≡ host_work j))
   job_noted_too t j e = mapped_too host_work noted_work (at C.jobs t) (at jobs t) j (same_places host_work noted_work C.jobs jobs L.jobs_same t) e
@@ -49,6 +48,14 @@ module _ (hs : List (Option Mapping)) (C : Rings) (conns : List (Option Connecti
   -- the account's table of jobs is as long as the host's
   pub job_notes_size : length jobs ≡ 12
   job_notes_size = sym (length-map jobs (option_map noted_work)) ∙ sym (ap length L.jobs_same) ∙ length-map C.jobs (option_map host_work) ∙ L.jobs-size
+
+  -- it is free where the host's is
+  pub note_free : (t : ℕ) → at C.jobs t ≡ None → at jobs t ≡ None
+  note_free t e = free_too host_work noted_work (at C.jobs t) (at jobs t) (same_places host_work noted_work C.jobs jobs L.jobs_same t) e
+
+  -- and a connection's next ticket lies inside it
+  pub ticket_inside : (c : ℕ) → c < 6 → next_ticket C.jobs c < length jobs
+  ticket_inside c l = omega (arith, job_notes_size, (ticket_range C.jobs c).1)
 
   -- what ring k or a segment of job j has for a handle counts as a use of it
   ring-one : (k : Connection) (h : ℕ) → k.handle ≡ h → ◌≡◌ {A = ℕ} (cond (ring_has h (Some k)) 1 0) 1
@@ -96,7 +103,7 @@ page_kept hs hs' k same m = record { mapping = m.mapping; below = m.below; there
 
 segment_kept : (hs hs' : List (Option Mapping)) (way : Direction) (h : ℕ) (p : Part) → (h < 64 → at hs' (key 0 h) ≡ at hs (key 0 h)) → SegmentMapped hs way h p → SegmentMapped hs' way h p
 segment_kept hs hs' way h p same m =
-    record { mapping = m.mapping; below = m.below; there = same m.below ∙ m.there; offset = m.offset; start = m.start; inside = m.inside; mode = m.mode }
+    record { mapping = m.mapping; below = m.below; there = same m.below ∙ m.there; lies = m.lies; mode = m.mode }
 
 job_kept : (hs hs' : List (Option Mapping)) (C C' : Rings) (t : ℕ) (j : Job) (k : Connection) → at C'.connections j.connection ≡ Some k → k.kind ≡ j.kind
     → ((i : ℕ) → i < j.count → get_or j.handles i 0 < 64 → at hs' (key 0 (get_or j.handles i 0)) ≡ at hs (key 0 (get_or j.handles i 0)))
@@ -159,8 +166,7 @@ module _ (hs : List (Option Mapping)) (C : Rings) (conns : List (Option Connecti
   -- each handle in use is used once
   opened-own : (h : ℕ) → h < 64 → handle_uses (with_connection c (Some k) C) h ≡ cond (is_some (at opened (key 0 h))) 1 0
   opened-own h l =
-      let s = sum_by-set (λ x. cond {A = ℕ} (ring_has h x) 1 0) C.connections c (Some k) None (omega (arith, L.connections-size)) in
-      let old : ◌≡◌ {A = ℕ} (cond (ring_has h (at C.connections c)) 1 0) 0 = rw free in
+      let s = counted_more (ring_has h) C.connections c k refl (omega (arith, L.connections-size)) free in
       elim (cases_eq h k.handle) [
         | inl q ↦
             let inside : key 0 k.handle < length hs = omega arith in
@@ -242,18 +248,18 @@ module _ (hs : List (Option Mapping)) (C : Rings) (conns : List (Option Connecti
   -- each handle in use is used once
   closed-own : (h : ℕ) → h < 64 → handle_uses (with_connection c None C) h ≡ cond (is_some (at closed (key 0 h))) 1 0
   closed-own h l =
-      let s = sum_by-set (λ x. cond {A = ℕ} (ring_has h x) 1 0) C.connections c None None (taken_inside C.connections c k live) in
+      let s = counted_less (ring_has h) C.connections c k refl (taken_inside C.connections c k live) live in
       let g = L.page c k live in
       let below = g.below in
       elim (cases_eq h k.handle) [
         | inl q ↦
             let inside : key 0 k.handle < length hs = omega arith in
-            let old : ◌≡◌ {A = ℕ} (cond (ring_has h (at C.connections c)) 1 0) 1 = rw (live, eq-eqb k.handle h (sym q)) in
+            let old : ◌≡◌ {A = ℕ} (cond (ring_has h (Some k)) 1 0) 1 = rw (eq-eqb k.handle h (sym q)) in
             let was : ◌≡◌ {A = ℕ} (cond (is_some (at hs (key 0 h))) 1 0) 1 = rw (q, g.there) in
             let now : at (set hs (key 0 k.handle) None) (key 0 h) ≡ None = rw q (get_or-set_same hs (key 0 k.handle) None None inside) in
             rw now (omega (arith, L.own h l))
         | inr d ↦
-            let old : ◌≡◌ {A = ℕ} (cond (ring_has h (at C.connections c)) 1 0) 0 = rw (live, ne_eqb k.handle h (λ e. d (sym e))) in
+            let old : ◌≡◌ {A = ℕ} (cond (ring_has h (Some k)) 1 0) 0 = rw (ne_eqb k.handle h (λ e. d (sym e))) in
             rw (closed-kept h d) (omega (arith, L.own h l))
       ]
 
@@ -509,14 +515,6 @@ links_completed hs hs' C conns jobs t j k n i held live noted others freed L =
     (links_job_gone hs hs' C conns jobs t j held others freed L)
 
 -- the start: nothing is there
-no_rings : (h n : ℕ) → count_by (ring_has h) (replicate n None) ≡ 0
-no_rings h zero = refl
-no_rings h (suc n) = no_rings h n
-
-no_segments : (h n : ℕ) → sum_by (segments_with h) (replicate n None) ≡ 0
-no_segments h zero = refl
-no_segments h (suc n) = no_segments h n
-
 pub links_start : Links (replicate 512 None) new_rings (replicate 6 None) (replicate 12 None)
 links_start = record {
   connections-size = refl;
@@ -524,7 +522,11 @@ links_start = record {
   connections_same = refl;
   jobs_same = refl;
   indices = λ c k n e f. none_some (at (replicate 6 None) c) k (at-replicate 6 c None) e;
-  own = λ h l. rw (at-replicate {X = Option Mapping} 512 (key 0 h) None) (omega (arith, no_rings h 6, no_segments h 12));
+  own = λ h l. (
+      let rings : count_by (ring_has h) (replicate 6 None) ≡ 0 = sum_by-replicate (λ o. cond {A = ℕ} (ring_has h o) 1 0) 6 None in
+      let segments : sum_by (segments_with h) (replicate 12 None) ≡ 0 = sum_by-replicate (segments_with h) 12 None in
+      rw (at-replicate {X = Option Mapping} 512 (key 0 h) None) (omega arith)
+      );
   page = λ c k e. none_some (at (replicate 6 None) c) k (at-replicate 6 c None) e;
   job = λ t j e. none_some (at (replicate 12 None) t) j (at-replicate 12 t None) e;
 }

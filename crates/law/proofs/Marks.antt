@@ -1,13 +1,14 @@
 -- A domain's marks stay 32 bits and ends of live connections, and next answers a port that is marked.
-use Rattle.std.proofs.Common.{◌≡◌, ℕ, ◌+◌, ◌-◌, ◌^◌, ◌<◌, ◌≤◌, true, false, eqb, ◌⊎◌, List, length, get_or, set, Some, None, Option, sym, refl, ap, ◌∙◌, subst, inl, inr, ⊎_elim, arith}
-use lib.Bits.{bit_and, bit_or}
-use Rattle.std.specs.Int.{w32}
+use Rattle.std.proofs.Common.{◌≡◌, ℕ, ◌-◌, ◌^◌, ◌<◌, ◌≤◌, true, false, eqb, ◌⊎◌, List, length, get_or, set, ◌+◌, Some, None, Option, sym, refl, ap, ◌∙◌, subst, inl, inr, ⊎_elim, arith}
 use Rattle.std.proofs.lemmas.Nat.{or_lt, and_le_l, pow_below, one_shl}
-use Rattle.std.proofs.lemmas.Nat.Bits.{bit_at_set_other, bit_at_clear_same, bit_at_and, bit_at-lt, bit_at-zero}
 use Rattle.std.proofs.lemmas.List.{get_or-set_same, get_or-set_other, set_past, get_or_past}
 use Rattle.std.proofs.lemmas.Bool.{cases_eq, cases_lt, cases_Bool, eqb-true, eqb-false, cond-true, cond-false, cond_both}
+use Rattle.grant_law.proofs.Places.{at-replicate, each_set}
+use lib.Bits.{bit_and, bit_or}
+use Rattle.std.specs.Int.{w32}
+use Rattle.std.proofs.lemmas.Nat.Bits.{bit_at_set_other, bit_at_clear_same, bit_at_and, bit_at-lt, bit_at-zero}
 use Rattle.rules.specs.Tables.{at}
-use Rattle.event.specs.Pending.{new_events, word, with_word, bit, marked_word, dropped_word, marked, dropped}
+use Rattle.event.specs.Pending.{new_events, word, bit, marked_word, dropped_word, marked, dropped}
 use Rattle.event.specs.declared.pending.Events.{Events}
 use Rattle.ring.specs.Total.{word_or_zero}
 use Rattle.ring.specs.declared.page.Word.TheVariants.{RspEvent}
@@ -19,23 +20,13 @@ use Rattle.law.specs.Keeps.{LiveEnd}
 use Rattle.law.specs.Step.{next_port}
 use Rattle.law.specs.Law.{Picks}
 use Rattle.law.proofs.Inv.{Words}
-use Rattle.law.proofs.Tickets.{none_some, same_some, set_taken, at-replicate}
-
--- what is true of the word w of the domain d, and of each word of E, is true of each where w takes the place of d's
-word_with : (P : ℕ → ℕ → Type 0) (E : Events) (d w : ℕ) → P d w → ((e : ℕ) → P e (word E e)) → (e : ℕ) → P e (word (with_word d w E) e)
-word_with P E d w here each e = elim (cases_eq e d) [
-  | inl is ↦ subst (λ k. P k (word (with_word d w E) k)) (sym is) (elim (cases_lt d (length E.pending)) [
-    | inl in_row ↦ subst (P d) (sym (get_or-set_same E.pending d w 0 in_row)) here
-    | inr past ↦ subst (λ xs. P d (get_or xs d 0)) (sym (set_past E.pending d w past)) (each d)
-  ])
-  | inr apart ↦ subst (P e) (sym (get_or-set_other E.pending d e w 0 apart)) (each e)
-]
+use Rattle.law.proofs.Tickets.{none_some, same_some, set_taken}
 
 -- the end of a live connection may be marked
 pub marked_words : (E : Events) (conns : List (Option ConnectionNote)) (d p : ℕ) → p < 32 → LiveEnd conns d p → Words E conns → Words (marked d p E) conns
 marked_words E conns d p lt end words = record {
-  small = word_with (λ e w. w < 2 ^ 32) E d (marked_word (word E d) p) (or_lt 32 (word E d) (2 ^ p) (words.small d) (pow_below p 32 lt)) words.small;
-  live = word_with (λ e w. (q : ℕ) → bit w q ≡ 1 → LiveEnd conns e q) E d (marked_word (word E d) p)
+  small = each_set (λ e w. w < 2 ^ 32) E.pending d (marked_word (word E d) p) 0 (or_lt 32 (word E d) (2 ^ p) (words.small d) (pow_below p 32 lt)) words.small;
+  live = each_set (λ e w. (q : ℕ) → bit w q ≡ 1 → LiveEnd conns e q) E.pending d (marked_word (word E d) p) 0
       (λ q b. elim (cases_eq q p) [
         | inl is ↦ subst (LiveEnd conns d) (sym is) end
         | inr apart ↦ words.live d q (sym (ap (λ m. bit (bit_or (word E d) m) q) (sym (one_shl p 32 lt)) ∙ bit_at_set_other w32 (word E d) p lt q apart) ∙ b)
@@ -53,8 +44,8 @@ dropped_words E conns d p words =
     let less : dropped_word (word E d) p ≤ word E d = and_le_l (word E d) (4294967295 - 2 ^ p) in
     let had : word E d < 2 ^ 32 = words.small d in
     record {
-      small = word_with (λ e w. w < 2 ^ 32) E d (dropped_word (word E d) p) (omega arith) words.small;
-      live = word_with (λ e w. (q : ℕ) → bit w q ≡ 1 → LiveEnd conns e q) E d (dropped_word (word E d) p)
+      small = each_set (λ e w. w < 2 ^ 32) E.pending d (dropped_word (word E d) p) 0 (omega arith) words.small;
+      live = each_set (λ e w. (q : ℕ) → bit w q ≡ 1 → LiveEnd conns e q) E.pending d (dropped_word (word E d) p) 0
           (λ q b. words.live d q (bit-less (word E d) (4294967295 - 2 ^ p) q b))
           words.live;
     }
@@ -74,7 +65,7 @@ dropped_bit E d p lt = elim (cases_lt d (length E.pending)) [
 ]
 
 still : (E : Events) (d p e q : ℕ) → bit (word (dropped d p E) e) q ≡ 1 → bit (word E e) q ≡ 1
-still E d p e q = word_with (λ e w. bit w q ≡ 1 → bit (word E e) q ≡ 1) E d (dropped_word (word E d) p) (λ b. bit-less (word E d) (4294967295 - 2 ^ p) q b) (λ e b. b) e
+still E d p e q = each_set (λ e w. bit w q ≡ 1 → bit (word E e) q ≡ 1) E.pending d (dropped_word (word E d) p) 0 (λ b. bit-less (word E d) (4294967295 - 2 ^ p) q b) (λ e b. b) e
 
 -- at the start nothing is pending
 pub words_start : (conns : List (Option ConnectionNote)) → Words new_events conns

@@ -1,7 +1,6 @@
 -- The bytes of a job are moved: what stays of the device and of the memory, and that nothing of it is refused.
-use Rattle.std.proofs.Common.{◌≡◌, ℕ, suc, ◌+◌, ◌-◌, ◌^◌, ◌<◌, ◌≤◌, Bool, false, cond, not, List, [], ◌∷◌, ◌++◌, map, length, get_or, take, drop, Some, Ok, sum_by, Option, refl, ap, ◌∙◌, subst, arith}
+use Rattle.std.proofs.Common.{◌≡◌, ℕ, suc, ◌+◌, ◌-◌, ◌^◌, ◌<◌, ◌≤◌, Bool, false, cond, not, List, [], ◌∷◌, map, length, get_or, Some, Ok, sum_by, Option, refl, ap, ◌∙◌, subst, arith}
 use Rattle.std.proofs.lemmas.List.Edits.{length-between}
-use Rattle.std.proofs.lemmas.List.{length-append, length-take-le, length-drop}
 use Rattle.std.proofs.lemmas.List.Sums.{sum_by-cons}
 use Rattle.std.proofs.lemmas.Bool.{ltb-false, le-ltb, lt-leb, eq-eqb, cond-true, cond-false}
 use Rattle.rules.specs.Refusal.{and_then}
@@ -15,6 +14,8 @@ use Rattle.device.specs.declared.orders.Order.{Order}
 use Rattle.device.specs.declared.transfer.Part.{Part}
 use Rattle.backend.specs.Move.{moving, moved_memory, moved_device}
 use Rattle.law.proofs.Inv.{no_part}
+use Rattle.law.proofs.Bytes.{placed-size}
+use Rattle.law.proofs.Altered.{overwritten_is}
 
 -- tests that say the same of each order give the same first order
 first_same_if : (a b : Bool) (o : Order) (x y : Option Order) → a ≡ b → x ≡ y → cond a (Some o) x ≡ cond b (Some o) y
@@ -42,12 +43,7 @@ part_size p m le = length-between m p.start (end_of p) le ∙ (let e : (p.start 
 
 -- and bytes put in its place leave the memory's
 pub overwritten-size : (p : Part) (ys m : List ℕ) → end_of p ≤ length m → length ys ≡ p.length → length (overwritten p ys m) ≡ length m
-overwritten-size p ys m le size =
-    let front : length (take p.start m) ≡ p.start = length-take-le p.start m (omega arith) in
-    let back : length (drop (end_of p) m) ≡ length m - end_of p = length-drop (end_of p) m in
-    let all : length (overwritten p ys m) ≡ length (take p.start m) + length (ys ++ drop (end_of p) m) = length-append (take p.start m) (ys ++ drop (end_of p) m) in
-    let rest : length (ys ++ drop (end_of p) m) ≡ length ys + length (drop (end_of p) m) = length-append ys (drop (end_of p) m) in
-    omega arith
+overwritten-size p ys m le size = ap length (overwritten_is p ys m size) ∙ placed-size p.start ys m (omega arith)
 
 module _ {X : Type 0} (D : Rules X) (laws : Laws D) (t : ℕ) where
   -- a part that is handed over lies in the memory, and the device serves it

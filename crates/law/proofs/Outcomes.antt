@@ -25,7 +25,7 @@ use Rattle.law.specs.Step.{told, passed_up, by_bay0, by_bay1}
 use Rattle.law.specs.Account.{Account, ConnectionNote, accepted, noted}
 use Rattle.law.specs.Keeps.{Writes, InSlot, nth, responses, handed}
 use Rattle.law.proofs.Inv.{Inv, BooksOf, Links, Requests, BayHeld, Words, PageMapped}
-use Rattle.law.proofs.Books.{in_force}
+use Rattle.law.proofs.Books.{frame-owned, in_force}
 use Rattle.law.proofs.Good.{Good}
 
 -- what the invariant says of host and memory alone
@@ -48,6 +48,11 @@ page-written a H m i k p =
       maps = record { handle = k.handle; note = n.0; own = p.below; in_force = n.1.0; frame = ap (λ (x : Mapping). x.frame) n.1.1 ∙ p.frame };
       mode = ap (λ (x : Mapping). x.mode) n.1.1 ∙ p.mode;
     }
+
+-- and the memory has it
+pub page_exists : (a : Account) (H : Tables) (m : List ℕ) → HostInv a H m → (k : Connection) → PageMapped H.grants.handles k → k.page < H.frames.count
+page_exists a H m i k p =
+    subst (λ f. f < H.frames.count) p.frame (frame-owned H.frames H.grants a i.books 0 k.handle p.mapping (omega arith) p.below p.there).0
 
 module _ {X : Type 0} (D : Rules X) (b : Bay) (a : Account) (H : Tables) (m : List ℕ) (x : X) where
   -- b' is the account after the call

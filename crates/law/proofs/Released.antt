@@ -1,8 +1,8 @@
 -- Domain 0's handles are freed one by one, in the tables and in the account.
 use Rattle.std.proofs.Common.{◌≡◌, ℕ, zero, suc, ◌<◌, Bool, true, false, cond, eqb, ltb, List, [], ◌∷◌, length, get_or, set, Some, None, count_by, Option, sym, refl, ap, ◌∙◌, inl, inr, arith}
 use Rattle.std.proofs.lemmas.List.{get_or-set_same, get_or-set_other, set-get_or}
-use Rattle.std.proofs.lemmas.List.Sums.{sum_by-cons}
-use Rattle.std.proofs.lemmas.Bool.{cases_eq, eq-eqb, ne_eqb, le-ltb}
+use Rattle.std.proofs.lemmas.List.Sums.{get_or-le-sum_by}
+use Rattle.std.proofs.lemmas.Bool.{cases_eq, eq-eqb, le-ltb}
 use Rattle.rules.specs.Refusal.{if_some}
 use Rattle.rules.specs.Tables.{at}
 use Rattle.frame.specs.declared.owners.Frames.{Frames}
@@ -15,25 +15,11 @@ use Rattle.law.specs.Account.{Account, MappingNote, counted, mapping_ended, mapp
 use Rattle.law.proofs.Inv.{BooksOf}
 use Rattle.law.proofs.Books.{books_unpinned}
 
--- a handle that counts in a list stands in it
-pub counted-stands : (hs : List ℕ) (h : ℕ) → 0 < count_by (λ y. eqb y h) hs → (i : ℕ) × ((i < length hs) × (get_or hs i 0 ≡ h))
-counted-stands [] h c = absurd (omega arith)
-counted-stands (x ∷ hs) h c = elim (cases_eq x h) [
-  | inl e ↦ (0, (omega arith, e))
-  | inr n ↦
-      let t : ◌≡◌ {A = ℕ} (cond (eqb x h) 1 0) 0 = rw (ne_eqb x h n) in
-      let r = counted-stands hs h (omega (arith, sum_by-cons (λ y. cond (eqb y h) 1 0) x hs)) in
-      (suc r.0, (omega (arith, r.1.0), r.1.1))
-]
-
--- one that does not count stands nowhere in it
+-- a handle that does not count in a list stands nowhere in it
 pub uncounted : (hs : List ℕ) (h i : ℕ) → count_by (λ y. eqb y h) hs ≡ 0 → i < length hs → get_or hs i 0 ≡ h → ⊥
-uncounted [] h i z l e = omega arith
-uncounted (x ∷ hs) h zero z l e =
-    let t : ◌≡◌ {A = ℕ} (cond (eqb x h) 1 0) 1 = rw (eq-eqb x h e) in
-    omega (arith, sum_by-cons (λ y. cond (eqb y h) 1 0) x hs)
-uncounted (x ∷ hs) h (suc i) z l e =
-    uncounted hs h i (omega (arith, sum_by-cons (λ y. cond (eqb y h) 1 0) x hs)) (omega arith) e
+uncounted hs h i z l e =
+    let one : ◌≡◌ {A = ℕ} (cond (eqb (get_or hs i 0) h) 1 0) 1 = ap (λ (b : Bool). cond {A = ℕ} b 1 0) (eq-eqb (get_or hs i 0) h e) in
+    omega (arith, one, get_or-le-sum_by (λ y. cond {A = ℕ} (eqb y h) 1 0) hs i 0 l)
 
 -- one use less of an entry leaves the handles
 unused-handles : (p : Mapping) (G : Grants) (b : Bool) → (cond b (unused (place p.owner p.reference) p.mode G) G).handles ≡ G.handles
@@ -99,8 +85,8 @@ freed-here F G a h l k =
     let inside : key 0 h < length G.handles = omega (arith, k.sound.handles_size) in
     ap (λ (t : List (Option Mapping)). at t (key 0 h)) (released-handles 0 h G l) ∙ get_or-set_same G.handles (key 0 h) None None inside
 
-freed_other : (G : Grants) (h m : ℕ) → h < 64 → (m ≡ key 0 h → ⊥) → at (released 0 h G).handles m ≡ at G.handles m
-freed_other G h m l n = ap (λ (t : List (Option Mapping)). at t m) (released-handles 0 h G l) ∙ get_or-set_other G.handles (key 0 h) m None None n
+pub freed_other : (G : Grants) (d h m : ℕ) → h < 64 → (m ≡ key d h → ⊥) → at (released d h G).handles m ≡ at G.handles m
+freed_other G d h m l n = ap (λ (t : List (Option Mapping)). at t m) (released-handles d h G l) ∙ get_or-set_other G.handles (key d h) m None None n
 
 -- with those of the list free, all of them and h are
 freed_all : (F : Frames) (G : Grants) (a : Account) (h : ℕ) (hs : List ℕ) → h < 64 → BooksOf F G a
@@ -109,7 +95,7 @@ freed_all : (F : Frames) (G : Grants) (a : Account) (h : ℕ) (hs : List ℕ) �
 freed_all F G a h hs l k f zero b = freed-here F G a h l k
 freed_all F G a h hs l k f (suc i) b = elim (cases_eq (key 0 (get_or hs i 0)) (key 0 h)) [
   | inl e ↦ ap (at (released 0 h G).handles) e ∙ freed-here F G a h l k
-  | inr n ↦ freed_other G h (key 0 (get_or hs i 0)) l n ∙ f i (omega arith)
+  | inr n ↦ freed_other G 0 h (key 0 (get_or hs i 0)) l n ∙ f i (omega arith)
 ]
 
 -- in the tables and in the account
@@ -127,6 +113,6 @@ segments_released F G a (h ∷ hs) k l =
       connections = o.connections ∙ r.connections;
       jobs = o.jobs ∙ r.jobs;
       owners = o.owners ∙ r.owners;
-      others = λ m n. freed_other G1 h m below (n 0 (omega arith)) ∙ r.others m (λ i b. n (suc i) (omega arith));
+      others = λ m n. freed_other G1 0 h m below (n 0 (omega arith)) ∙ r.others m (λ i b. n (suc i) (omega arith));
       free = freed_all F G1 a1 h hs below r.books r.free;
     }

@@ -1,7 +1,7 @@
 -- Each consumed request stays answered or in hand, once.
 use Rattle.std.proofs.Common.{◌≡◌, ℕ, ◌+◌, ◌<◌, ◌≤◌, Bool, true, false, cond, eqb, ltb, List, [], ◌∷◌, ◌++◌, map, length, get_or, set, replicate, Some, None, sum_by, count_by, Option, sym, refl, ap, ◌∙◌, subst, inl, inr, arith}
 use Rattle.std.proofs.lemmas.List.{get_or_append_left, get_or_push, length-map, length_push, map_push}
-use Rattle.std.proofs.lemmas.List.Sums.{sum_by-set, sum_by_push, get_or-le-sum_by}
+use Rattle.std.proofs.lemmas.List.Sums.{sum_by_push, get_or-le-sum_by}
 use Rattle.std.proofs.lemmas.Bool.{cases_eq, eq-eqb, ne_eqb, le-ltb}
 use Rattle.std.proofs.lemmas.Bool.Decides.{nat_tests}
 use Rattle.rules.specs.Tables.{at}
@@ -16,14 +16,15 @@ use Rattle.connection.specs.declared.tables.Rings.{Rings}
 use Rattle.law.specs.Account.{ConnectionNote, JobNote, with_request, with_response}
 use Rattle.law.specs.Keeps.{nth, on_connection, Work}
 use Rattle.law.proofs.Inv.{Links, Requests, RequestHeld, OrderHeld, job_has, request_uses}
-use Rattle.law.proofs.Tickets.{none_some, same_some, taken_inside, at_set, set_taken, at-replicate, free_or_taken, two_in_sum, none_pass, free_ticket, ticket_range}
-use Rattle.law.proofs.Links.{job-held_too, job_notes_size}
+use Rattle.law.proofs.Tickets.{none_some, same_some, taken_inside, at_set, set_taken, free_or_taken, two_in_sum, none_pass, free_ticket}
+use Rattle.grant_law.proofs.Places.{at-replicate, stood_before, counted_more, counted_less}
+use Rattle.law.proofs.Links.{job-held_too, note_free, ticket_inside}
 
 -- an element keeps its number when another is put behind, and the last has the number that was the count
 nth_before : {X : Type 0} (xs : List X) (y : X) (k : ℕ) (x : X) → nth xs k ≡ Some x → nth (xs ++ y ∷ []) k ≡ Some x
 nth_before xs y k x e = rw (map_push Some xs y) (get_or_append_left (map Some xs) (Some y ∷ []) None k (taken_inside (map Some xs) k x e) ∙ e)
 
-nth_last : {X : Type 0} (xs : List X) (y : X) → nth (xs ++ y ∷ []) (length xs) ≡ Some y
+pub nth_last : {X : Type 0} (xs : List X) (y : X) → nth (xs ++ y ∷ []) (length xs) ≡ Some y
 nth_last xs y = rw (map_push Some xs y) (get_or_push (map Some xs) (Some y) None (length xs) (length-map xs Some))
 
 -- a job's request stays where it is when another is put behind, and when a response is
@@ -111,8 +112,8 @@ module _ (hs : List (Option Mapping)) (C : Rings) (conns : List (Option Connecti
   ]
 
   -- connect: the new connection has no requests yet
-  requests-opened-by : (c : ℕ) (n : ConnectionNote) → at C.connections c ≡ None → n.requests ≡ [] → n.answered ≡ [] → Requests C.jobs conns jobs → Requests C.jobs (set conns c (Some n)) jobs
-  requests-opened-by c n dead e f Q =
+  pub requests_opened : (c : ℕ) (n : ConnectionNote) → at C.connections c ≡ None → n.requests ≡ [] → n.answered ≡ [] → Requests C.jobs conns jobs → Requests C.jobs (set conns c (Some n)) jobs
+  requests_opened c n dead e f Q =
       let none : length n.requests ≡ 0 = rw e in
       let unanswered : length n.answered ≡ 0 = rw f in
       record {
@@ -127,23 +128,14 @@ module _ (hs : List (Option Mapping)) (C : Rings) (conns : List (Option Connecti
         order = Q.order;
       }
 
--- the same, with its premises in another order
-pub requests_opened : (hs : List (Option Mapping)) (C : Rings) (conns : List (Option ConnectionNote)) (jobs : List (Option JobNote)) (c : ℕ) (n : ConnectionNote)
-    → at C.connections c ≡ None → n.requests ≡ [] → n.answered ≡ []
-    → Links hs C conns jobs → Requests C.jobs conns jobs → Requests C.jobs (set conns c (Some n)) jobs
-requests_opened hs C conns jobs c n dead e f L Q = requests-opened-by hs C conns jobs L c n dead e f Q
-
 -- disconnect: the others stay
-before_none : (conns : List (Option ConnectionNote)) (c d : ℕ) (n : ConnectionNote) → at (set conns c None) d ≡ Some n → at conns d ≡ Some n
-before_none conns c d n e = elim (at_set conns c d None n e) [ inl a ↦ none_some None n refl a.1 | inr a ↦ a.1 ]
-
 pub requests-closed : (hs : List (Option Mapping)) (C : Rings) (conns : List (Option ConnectionNote)) (jobs : List (Option JobNote)) (c : ℕ) (k : Connection)
     → at C.connections c ≡ Some k → has_jobs C.jobs c ≡ false
     → Links hs C conns jobs → Requests C.jobs conns jobs → Requests C.jobs (set conns c None) jobs
 requests-closed hs C conns jobs c k live idle L Q = record {
-  once = λ d i n e. Q.once d i n (before_none conns c d n e);
-  total = λ d n e. Q.total d n (before_none conns c d n e);
-  request = λ t j x n f g e. Q.request t j x n f g (before_none conns c x.connection n e);
+  once = λ d i n e. Q.once d i n (stood_before conns c d n e);
+  total = λ d n e. Q.total d n (stood_before conns c d n e);
+  request = λ t j x n f g e. Q.request t j x n f g (stood_before conns c x.connection n e);
   order = Q.order;
 }
 
@@ -162,54 +154,6 @@ requests-answered hs C conns jobs c n q e L Q =
       order = Q.order;
     }
 
--- another job under the ticket t, or none: what the jobs then count
-module _ (jobs : List (Option JobNote)) (t : ℕ) (inside : t < length jobs) where
-  -- a job x more, at its request
-  count-added : (x : JobNote) (c i : ℕ) → at jobs t ≡ None → x.connection ≡ c → count_by (job_has c i) (set jobs t (Some x)) ≡ count_by (job_has c i) jobs + cond {A = ℕ} (eqb x.index i) 1 0
-  count-added x c i e q =
-      let old : ◌≡◌ {A = ℕ} (cond (job_has c i (at jobs t)) 1 0) 0 = rw e in
-      omega (arith, old, job-here x c i q, sum_by-set (λ o. cond {A = ℕ} (job_has c i o) 1 0) jobs t (Some x) None inside)
-
-  -- at its connection
-  total-added : (x : JobNote) (c : ℕ) → at jobs t ≡ None → x.connection ≡ c → count_by (on_connection c) (set jobs t (Some x)) ≡ count_by (on_connection c) jobs + 1
-  total-added x c e q =
-      let old : ◌≡◌ {A = ℕ} (cond (on_connection c (at jobs t)) 1 0) 0 = rw e in
-      omega (arith, old, on_here x c q, sum_by-set (λ o. cond {A = ℕ} (on_connection c o) 1 0) jobs t (Some x) None inside)
-
-  -- and at others
-  count-added-there : (x : JobNote) (d i : ℕ) → at jobs t ≡ None → (x.connection ≡ d → ⊥) → count_by (job_has d i) (set jobs t (Some x)) ≡ count_by (job_has d i) jobs
-  count-added-there x d i e n =
-      let old : ◌≡◌ {A = ℕ} (cond (job_has d i (at jobs t)) 1 0) 0 = rw e in
-      omega (arith, old, job_there x d i n, sum_by-set (λ o. cond {A = ℕ} (job_has d i o) 1 0) jobs t (Some x) None inside)
-
-  total-added-there : (x : JobNote) (d : ℕ) → at jobs t ≡ None → (x.connection ≡ d → ⊥) → count_by (on_connection d) (set jobs t (Some x)) ≡ count_by (on_connection d) jobs
-  total-added-there x d e n =
-      let old : ◌≡◌ {A = ℕ} (cond (on_connection d (at jobs t)) 1 0) 0 = rw e in
-      omega (arith, old, on_there x d n, sum_by-set (λ o. cond {A = ℕ} (on_connection d o) 1 0) jobs t (Some x) None inside)
-
-  -- the job x less, at its request
-  count-gone : (x : JobNote) (c i : ℕ) → at jobs t ≡ Some x → x.connection ≡ c → count_by (job_has c i) (set jobs t None) + cond {A = ℕ} (eqb x.index i) 1 0 ≡ count_by (job_has c i) jobs
-  count-gone x c i e q =
-      let old : cond {A = ℕ} (job_has c i (at jobs t)) 1 0 ≡ cond {A = ℕ} (eqb x.index i) 1 0 = rw e (job-here x c i q) in
-      omega (arith, old, sum_by-set (λ o. cond {A = ℕ} (job_has c i o) 1 0) jobs t None None inside)
-
-  -- at its connection
-  total-gone : (x : JobNote) (c : ℕ) → at jobs t ≡ Some x → x.connection ≡ c → count_by (on_connection c) (set jobs t None) + 1 ≡ count_by (on_connection c) jobs
-  total-gone x c e q =
-      let old : ◌≡◌ {A = ℕ} (cond (on_connection c (at jobs t)) 1 0) 1 = rw e (on_here x c q) in
-      omega (arith, old, sum_by-set (λ o. cond {A = ℕ} (on_connection c o) 1 0) jobs t None None inside)
-
-  -- and at others
-  count-gone-there : (x : JobNote) (d i : ℕ) → at jobs t ≡ Some x → (x.connection ≡ d → ⊥) → count_by (job_has d i) (set jobs t None) ≡ count_by (job_has d i) jobs
-  count-gone-there x d i e n =
-      let old : ◌≡◌ {A = ℕ} (cond (job_has d i (at jobs t)) 1 0) 0 = rw e (job_there x d i n) in
-      omega (arith, old, sum_by-set (λ o. cond {A = ℕ} (job_has d i o) 1 0) jobs t None None inside)
-
-  total-gone-there : (x : JobNote) (d : ℕ) → at jobs t ≡ Some x → (x.connection ≡ d → ⊥) → count_by (on_connection d) (set jobs t None) ≡ count_by (on_connection d) jobs
-  total-gone-there x d e n =
-      let old : ◌≡◌ {A = ℕ} (cond (on_connection d (at jobs t)) 1 0) 0 = rw e (on_there x d n) in
-      omega (arith, old, sum_by-set (λ o. cond {A = ℕ} (on_connection d o) 1 0) jobs t None None inside)
-
 -- serve that hands over: one request more, and it is a new job
 module _ (hs : List (Option Mapping)) (C : Rings) (conns : List (Option ConnectionNote)) (jobs : List (Option JobNote)) (c : ℕ) (k : Connection) (n : ConnectionNote) (q : Request) (j : Job) (x : JobNote)
     (live : at C.connections c ≡ Some k) (noted : at conns c ≡ Some n) (two : has_two_jobs C.jobs c ≡ false)
@@ -219,25 +163,20 @@ module _ (hs : List (Option Mapping)) (C : Rings) (conns : List (Option Connecti
   abbrev new-ticket : ℕ
   new-ticket = next_ticket C.jobs c
 
-  -- the account has no job under the ticket
+  -- the account has no job under the ticket, which lies inside the table
   no_note : at jobs new-ticket ≡ None
-  no_note = elim (free_or_taken (at jobs new-ticket)) [
-    | inl e ↦ e
-    | inr w ↦
-        let h = job-held_too hs C conns jobs L new-ticket w.0 w.1 in
-        none_some (at C.jobs new-ticket) h.0 (free_ticket C.jobs c two) h.1.0
-  ]
+  no_note = note_free hs C conns jobs L new-ticket (free_ticket C.jobs c two)
 
-  -- it lies inside the table
-  ticket-inside : new-ticket < length jobs
-  ticket-inside = omega (arith, taken_inside C.connections c k live, L.connections-size, job_notes_size hs C conns jobs L, (ticket_range C.jobs c).1)
+  inside : new-ticket < length jobs
+  inside = ticket_inside hs C conns jobs L c (omega (arith, taken_inside C.connections c k live, L.connections-size))
 
   -- the new request is in hand, once
   handed-once : (i : ℕ) → request_uses (set jobs new-ticket (Some x)) c (with_request q n) i ≡ cond (ltb i (length (n.requests ++ q ∷ []))) 1 0
   handed-once i =
       let more : length (n.requests ++ q ∷ []) ≡ length n.requests + 1 = length_push n.requests q in
       let new : count_by (job_has c i) (set jobs new-ticket (Some x)) ≡ count_by (job_has c i) jobs + cond {A = ℕ} (eqb (length n.requests) i) 1 0 =
-      subst (λ v. count_by (job_has c i) (set jobs new-ticket (Some x)) ≡ count_by (job_has c i) jobs + cond {A = ℕ} (eqb v i) 1 0) index (count-added jobs new-ticket ticket-inside x c i no_note of_c) in
+      subst (λ v. count_by (job_has c i) (set jobs new-ticket (Some x)) ≡ count_by (job_has c i) jobs + cond {A = ℕ} (eqb v i) 1 0) index
+      (counted_more (job_has c i) jobs new-ticket x refl inside no_note ∙ ap (λ v. count_by (job_has c i) jobs + v) (job-here x c i of_c)) in
       rw more (omega (arith, new, Q.once c i n noted, one_below i (length n.requests)))
 
   -- the new job's request is the last
@@ -250,10 +189,10 @@ module _ (hs : List (Option Mapping)) (C : Rings) (conns : List (Option Connecti
   pub requests-handed : Requests (set C.jobs (next_ticket C.jobs c) (Some j)) (set conns c (Some (with_request q n))) (set jobs (next_ticket C.jobs c) (Some x))
   requests-handed = record {
     once = once-set C.jobs conns jobs (set jobs new-ticket (Some x)) c (with_request q n) Q
-        (λ d i a. count-added-there jobs new-ticket ticket-inside x d i no_note (λ e. a (sym e ∙ of_c))) handed-once;
+        (λ d i a. omega (arith, counted_more (job_has d i) jobs new-ticket x refl inside no_note, job_there x d i (λ e. a (sym e ∙ of_c)))) handed-once;
     total = total-set C.jobs conns jobs (set jobs new-ticket (Some x)) c (with_request q n) Q
-        (λ d a. total-added-there jobs new-ticket ticket-inside x d no_note (λ e. a (sym e ∙ of_c)))
-        (omega (arith, length_push n.requests q, total-added jobs new-ticket ticket-inside x c no_note of_c, Q.total c n noted));
+        (λ d a. omega (arith, counted_more (on_connection d) jobs new-ticket x refl inside no_note, on_there x d (λ e. a (sym e ∙ of_c))))
+        (omega (arith, length_push n.requests q, counted_more (on_connection c) jobs new-ticket x refl inside no_note, on_here x c of_c, Q.total c n noted));
     request = λ t i y m e f g. elim (at_set C.jobs new-ticket t (Some j) i e) [
       | inl a ↦ elim (at_set jobs new-ticket t (Some x) y f) [
         | inl b ↦
@@ -293,11 +232,11 @@ requests-completed hs C conns jobs t j x n held noted e L Q =
     let inside = taken_inside jobs t x noted in
     record {
       once = once-set C.jobs conns jobs (set jobs t None) x.connection (with_response x.index n) Q
-          (λ d i a. count-gone-there jobs t inside x d i noted (λ q. a (sym q)))
-          (λ i. omega (arith, sum_by_push (λ y. cond {A = ℕ} (eqb y i) 1 0) n.answered x.index, count-gone jobs t inside x x.connection i noted refl, Q.once x.connection i n e));
+          (λ d i a. omega (arith, counted_less (job_has d i) jobs t x refl inside noted, job_there x d i (λ q. a (sym q))))
+          (λ i. omega (arith, sum_by_push (λ y. cond {A = ℕ} (eqb y i) 1 0) n.answered x.index, counted_less (job_has x.connection i) jobs t x refl inside noted, job-here x x.connection i refl, Q.once x.connection i n e));
       total = total-set C.jobs conns jobs (set jobs t None) x.connection (with_response x.index n) Q
-          (λ d a. total-gone-there jobs t inside x d noted (λ q. a (sym q)))
-          (omega (arith, length_push n.answered x.index, total-gone jobs t inside x x.connection noted refl, Q.total x.connection n e));
+          (λ d a. omega (arith, counted_less (on_connection d) jobs t x refl inside noted, on_there x d (λ q. a (sym q))))
+          (omega (arith, length_push n.answered x.index, counted_less (on_connection x.connection) jobs t x refl inside noted, on_here x x.connection refl, Q.total x.connection n e));
       request = λ u i y m f g h. elim (at_set C.jobs t u None i f) [
         | inl a ↦ none_some None i refl a.1
         | inr a ↦ elim (at_set jobs t u None y g) [

@@ -1,9 +1,8 @@
 -- Domain 0 maps the segments of a request in turn, in the tables and in the account.
-use Rattle.std.proofs.Common.{◌≡◌, ℕ, suc, ◌+◌, ◌*◌, ◌<◌, ◌≤◌, cond, eqb, List, [], ◌∷◌, ◌++◌, length, get_or, is_some, Some, None, Ok, Err, sum_by, count_by, Option, Result, unwrap_or, sym, refl, ap, ◌∙◌, subst, inl, inr, arith}
+use Rattle.std.proofs.Common.{◌≡◌, ℕ, suc, ◌+◌, ◌*◌, ◌<◌, ◌≤◌, cond, eqb, List, [], ◌∷◌, ◌++◌, length, get_or, is_some, Some, None, Ok, sum_by, count_by, Option, unwrap_or, sym, refl, ap, ◌∙◌, subst, inl, inr, arith}
 use Rattle.std.proofs.lemmas.List.{length-set, get_or-set_same, get_or-set_other, get_or_past, take_more_set}
 use Rattle.std.proofs.lemmas.List.Sums.{sum_by-cons, sum_by_push}
 use Rattle.std.proofs.lemmas.Bool.{cases_eq, cases_lt, eq-eqb, ne_eqb}
-use Rattle.rules.specs.Refusal.{either_of}
 use Rattle.rules.specs.Tables.{at}
 use Rattle.device.specs.declared.transfer.Part.{Part}
 use Rattle.frame.specs.declared.owners.Frames.{Frames}
@@ -18,7 +17,9 @@ use Rattle.connection.specs.declared.tables.Job.{Job}
 use Rattle.backend.specs.Segments.{mode_for, part_in, with_segment, MappingDone, pin_all}
 use Rattle.law.specs.Account.{Account, mapping_noted, next_handle, part_of, spans_noted}
 use Rattle.law.proofs.Inv.{BooksOf, SegmentMapped, no_part}
-use Rattle.law.proofs.Books.{MapAccepted, map-accepted, owns_parts, books_pinned, next_handle_same}
+use Rattle.grant_law.proofs.Verdicts.{Accepted, map_accepted}
+use Rattle.law.proofs.Books.{owns_parts, books_pinned, next_handle_same}
+use Rattle.law.proofs.Cases.{by_either}
 use Rattle.law.proofs.Spans.{no_span}
 
 -- 1 where domain 0's handle h is in use
@@ -53,19 +54,13 @@ pub record AllPinned (F : Frames) (G G' : Grants) (a a' : Account) (i : ℕ) (j 
   pub segments : ((n : ℕ) → n < length ss → (get_or ss n no_span).start + (get_or ss n no_span).length ≤ 4096)
       → (n : ℕ) → i ≤ n → n < i + length ss → SegmentMapped G'.handles j.direction (get_or j'.handles n 0) (get_or j'.parts n no_part)
 
--- what holds of both ways that a verdict may go holds of the one that it goes
-pub by_either : {T E Y : Type 0} (P : Y → Type 0) (r : Result T E) (f : T → Y) (g : E → Y)
-    → ((t : T) → r ≡ Ok t → P (f t)) → ((e : E) → r ≡ Err e → P (g e)) → P (either_of r f g)
-by_either P (Ok t) f g p q = p t refl
-by_either P (Err e) f g p q = q e refl
-
 -- one segment more, under the free handle of g, with the rest mapped behind it
 module _ (F : Frames) (G : Grants) (a : Account) (guest i : ℕ) (j : Job) (s : Span) (g : Grant)
     (books : BooksOf F G a) (count : j.count ≡ i) (few : i < 11) (handles_size : length j.handles ≡ 11) (parts_size : length j.parts ≡ 11)
     (ok : map_verdict F G 0 guest s.reference (mode_for j.direction) ≡ Ok g) where
   -- what the accepted map says
-  yes : MapAccepted F G 0 guest s.reference (mode_for j.direction) g
-  yes = map-accepted F G 0 guest s.reference (mode_for j.direction) g (omega arith) books.sound.handles_size ok
+  yes : Accepted F G 0 guest s.reference (mode_for j.direction) g
+  yes = map_accepted F G 0 guest s.reference (mode_for j.direction) g (omega arith) books.sound.handles_size ok
 
   -- an owned frame is one of the table's, so the place of a byte in it is counted by 32 bits
   frame-below : g.mapping.frame < 256
@@ -83,7 +78,7 @@ module _ (F : Frames) (G : Grants) (a : Account) (guest i : ℕ) (j : Job) (s : 
   -- the account's part is the one that is put down
   pub part_is : s.start + s.length ≤ 4096 → part_of (get_or a.entries (place guest s.reference) blank).frame s ≡ part_in g.mapping.frame s
   part_is l =
-      ap (λ f. part_of f s) (sym (ap (λ (p : Mapping). p.frame) yes.mapping ∙ books.frame_same (place guest s.reference)))
+      ap (λ f. part_of f s) (sym (ap (λ (p : Mapping). p.frame) yes.made ∙ books.frame_same (place guest s.reference)))
       ∙ ap (λ n. record { start = n; length = s.length }) (sym (part-start l))
 
   -- the account's next handle is the one granted
@@ -157,10 +152,8 @@ module _ (F : Frames) (G : Grants) (a : Account) (guest i : ℕ) (j : Job) (s : 
           mapping = g.mapping;
           below = yes.handle;
           there = r.kept (key 0 g.handle) g.mapping there;
-          offset = s.start;
-          start = part-start l;
-          inside = l;
-          mode = ap (λ (m : Mapping). m.mode) yes.mapping;
+          lies = record { offset = s.start; start = part-start l; inside = l };
+          mode = ap (λ (m : Mapping). m.mode) yes.made;
         })
 
     -- and so is each behind it

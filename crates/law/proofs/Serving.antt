@@ -1,7 +1,8 @@
 -- serve: whatever becomes of the request, the outcome is good.
-use Rattle.std.proofs.Common.{◌≡◌, ℕ, ◌+◌, ◌-◌, ◌*◌, ◌<◌, ◌≤◌, Bool, true, false, cond, ◌||◌, eqb, ltb, List, [], ◌∷◌, ◌++◌, map, length, get_or, set, ℤ, is_some, Some, None, Ok, Err, sum_by, count_by, Option, Result, sym, refl, ap, ◌∙◌, subst, inl, inr, arith}
-use Rattle.std.proofs.lemmas.List.{get_or-set_same, get_or-set_other, get_or_push, length_push, map_push, length-map}
-use Rattle.std.proofs.lemmas.Bool.{cases_eq, or_parts, both_ways, cond-false}
+use Rattle.std.proofs.Common.{◌≡◌, ℕ, ◌+◌, ◌-◌, ◌*◌, ◌<◌, ◌≤◌, Bool, true, false, cond, ◌||◌, eqb, ltb, List, [], ◌∷◌, ◌++◌, length, get_or, set, ℤ, is_some, Some, None, Ok, Err, sum_by, count_by, Option, Result, sym, refl, ap, ◌∙◌, subst, inl, inr, arith}
+use Rattle.std.proofs.lemmas.List.{get_or-set_same, get_or-set_other, get_or_push, length_push}
+use Rattle.std.proofs.lemmas.Option.{same_Some}
+use Rattle.std.proofs.lemmas.Bool.{cases_eq, or_parts, both_ways, cond-false, cond_both}
 use Rattle.layout.specs.Layout.{le}
 use Rattle.abi.specs.Index.{shown, distance}
 use Rattle.abi.specs.Page.{slots, slot_start}
@@ -18,6 +19,7 @@ use Rattle.grant.specs.Tables.{key}
 use Rattle.grant.specs.Map.{mode_of}
 use Rattle.grant.specs.declared.tables.Mapping.{Mapping}
 use Rattle.grant.specs.declared.tables.Grants.{Grants}
+use Rattle.grant_law.proofs.Places.{by_some}
 use Rattle.ringpage.specs.declared.slot.Request.{Request}
 use Rattle.ring.specs.Total.{request_or_zeros, word_or_zero}
 use Rattle.ring.specs.Fault.{status_of}
@@ -36,33 +38,28 @@ use Rattle.connection.specs.declared.kinds.Bay.TheVariants.{BlockBay, NetBay}
 use Rattle.connection.specs.declared.tables.Connection.{Connection}
 use Rattle.connection.specs.declared.tables.Job.{Job}
 use Rattle.backend.specs.Look.{look, next_request, event_asked, consumed, consumed_on, next_index}
-use Rattle.backend.specs.Segments.{MappingDone, pin_all, released_all, job_for, order_for, mode_for}
+use Rattle.backend.specs.Segments.{MappingDone, released_all, job_for, order_for, mode_for}
 use Rattle.backend.specs.Respond.{responded_memory, responded_rings}
 use Rattle.backend.specs.declared.tables.Tables.{Tables}
 use Rattle.answer.specs.declared.reply.Answer.{Answer}
 use Rattle.answer.specs.declared.reply.Answer.TheVariants.{Idle, HandedOver, AnsweredNow}
 use Rattle.law.specs.World.{with_grants, with_rings}
-use Rattle.law.specs.Serve.{Outcome, answered_now, handed_over, segments_mapped, spent, served_on, served}
+use Rattle.law.specs.Serve.{Outcome, mapping_for, with_handed, answered_now, handed_over, segments_mapped, spent, served_on, served}
 use Rattle.law.specs.Account.{Account, ConnectionNote, JobNote, SpansNoted, next_noted, with_request, with_response, answer_noted, job_noted, serve_noted, spans_noted, noted_connection, noted_job}
 use Rattle.law.specs.Keeps.{Writes, InSlot, nth, responses, handed, Pairing, host_pairing, noted_pairing, Work, host_work, noted_work}
-use Rattle.law.proofs.Inv.{Links, Requests, BayHeld, Words, SegmentMapped, no_part}
-use Rattle.law.proofs.Books.{frame-owned, owns_parts}
-use Rattle.law.proofs.Links.{connection-noted, no_job_noted, next_ticket_same, links_answered, links_handed, job_notes_size}
-use Rattle.law.proofs.Requested.{requests-answered, requests-handed}
-use Rattle.law.proofs.Tickets.{at_set, set_taken, taken_inside, same_some, free_ticket, ticket_range}
+use Rattle.law.proofs.Inv.{Links, Requests, BayHeld, SegmentMapped, no_part, Words}
+use Rattle.law.proofs.Links.{connection-noted, note_free, ticket_inside, next_ticket_same, links_answered, links_handed}
+use Rattle.law.proofs.Requested.{nth_last, requests-answered, requests-handed}
+use Rattle.law.proofs.Tickets.{at_set, taken_inside, same_some, free_ticket, set_taken}
 use Rattle.law.proofs.Segments.{AllPinned, segments_pinned}
 use Rattle.law.proofs.Undoing.{Undone, segments_refused, segments_undone}
 use Rattle.law.proofs.Spans.{no_span, checked-spans}
 use Rattle.law.proofs.Bytes.{put_size, put_others, page_there, responded-size, responded-others, response_stands, slot-shown, request_shown}
 use Rattle.law.proofs.Marks.{words_kept, responded_words}
 use Rattle.law.proofs.Bays.{under-accepted}
-use Rattle.law.proofs.Cases.{by_either, by_some, by_cond}
-use Rattle.law.proofs.Good.{no_response}
-use Rattle.law.proofs.Outcomes.{HostInv, page-written, OutcomeGood}
-
--- the last of a list
-nth_push : {X : Type 0} (xs : List X) (y : X) → nth (xs ++ y ∷ []) (length xs) ≡ Some y
-nth_push xs y = ap (λ os. at os (length xs)) (map_push Some xs y) ∙ get_or_push (map Some xs) (Some y) None (length xs) (length-map xs Some)
+use Rattle.law.proofs.Cases.{by_either}
+use Rattle.law.proofs.Good.{no_answer, no_response}
+use Rattle.law.proofs.Outcomes.{HostInv, page-written, page_exists, OutcomeGood}
 
 -- a response that is noted on the connection c stands in its slot
 pub response_noted : (a : Account) (c : ℕ) (old new : ConnectionNote) (index : ℕ) (k : Connection) (q₀ : Request) (status : ℤ) (m : List ℕ)
@@ -112,13 +109,6 @@ bays_apart NetBay BlockBay d p q = absurd (both_ways false refl p)
 bays_apart NetBay NetBay BlockBay p q = refl
 bays_apart NetBay NetBay NetBay p q = q
 
--- no response was written where a connection's answers are as before
-no_answer : {X : Type 0} (a : Account) (c j : ℕ) (old n : ConnectionNote) → at a.connections c ≡ Some old → n.answered ≡ old.answered → responses a c ≤ j → j < length n.answered → X
-no_answer a c j old n there same low high =
-    let many : responses a c ≡ length old.answered = ap (λ (o : Option ConnectionNote). if_some {Y = ℕ} o 0 (λ x. length x.answered)) there in
-    let long : length n.answered ≡ length old.answered = ap length same in
-    absurd (omega arith)
-
 -- what a look at the ring says: it is refused by the layer of rings, and finds a request only where the back end is free
 looked : Bool → ℕ → Bool → Result Bool RingFault
 looked t n busy = and_then (refuse_first ((t, BadIndex) ∷ []) (Ok n)) (λ z. cond (eqb z 0) (Ok false) (refuse_first ((busy, Busy) ∷ []) (Ok true)))
@@ -150,9 +140,6 @@ look_free busy k m e = looked_free (ltb (slots k.kind - distance k.rsp_prod k.re
 look_ring : (busy : Bool) (k : Connection) (m : List ℕ) (e : RingFault) → look busy k m ≡ Err e → (d : DeviceFault) → e ≡ OfDevice d → ⊥
 unfolding looked
 look_ring busy k m e q d r = looked_ring (ltb (slots k.kind - distance k.rsp_prod k.req_cons) (distance k.req_cons (word_or_zero m k.page ReqProd))) (distance k.req_cons (word_or_zero m k.page ReqProd)) busy e q d r
-
-some_is : {X : Type 0} (x y : X) → Some x ≡ Some y → x ≡ y
-some_is x y e = cc
 
 module _ {X : Type 0} (D : Rules X) (laws : Laws D) (b : Bay) (a : Account) (H : Tables) (m : List ℕ) (x : X)
     (i : HostInv a H m) (held : BayHeld D x b a.jobs) (c : ℕ) where
@@ -210,11 +197,7 @@ module _ {X : Type 0} (D : Rules X) (laws : Laws D) (b : Bay) (a : Account) (H :
 
     -- the page lies inside the memory
     page-inside : 4096 * k.page + 4096 ≤ length m
-    page-inside =
-        let p = i.links.page c k live in
-        let own = frame-owned H.frames H.grants a i.books 0 k.handle p.mapping (omega arith) p.below p.there in
-        let exists : k.page < H.frames.count = subst (λ f. f < H.frames.count) p.frame (owns_parts H.frames p.mapping.owner p.mapping.frame own).0 in
-        page_there H.frames.count k.page m i.memory exists
+    page-inside = page_there H.frames.count k.page m i.memory (page_exists a H m i k (i.links.page c k live))
 
     -- the request that the account reads is the host's
     pub taken : Request
@@ -277,7 +260,7 @@ module _ {X : Type 0} (D : Rules X) (laws : Laws D) (b : Bay) (a : Account) (H :
         owners = refl;
         alters = λ g h wr. only-page memory-then (λ g' n. responded-others (consumed k) (id_of taken) (operation_of taken) (status_of f.fault) m g' n) g wr;
         response = response_noted a c note (with_response (length note.requests) (with_request taken note)) (length note.requests) (consumed k) taken (status_of f.fault) m
-            there refl kind-same page-same (nth_push note.requests taken) (i.links.indices c k note live there).produced page-inside;
+            there refl kind-same page-same (nth_last note.requests taken) (i.links.indices c k note live there).produced page-inside;
         unbroken = λ e q. let z : ◌≡◌ {A = ℕ} 0 1 = cc in omega arith;
         refused = λ e q. absurd (let z : ◌≡◌ {A = ℕ} 0 1 = cc in omega arith);
       }
@@ -303,7 +286,7 @@ module _ {X : Type 0} (D : Rules X) (laws : Laws D) (b : Bay) (a : Account) (H :
       fresh-job = job_for c k.kind (asked taken)
 
       abbrev pinned : MappingDone
-      pinned = pin_all H.frames k.guest 0 fresh-job H.grants (spans_of taken)
+      pinned = mapping_for c (consumed k) (asked taken) (with_rings (consumed_on c k H.rings) H)
 
       -- a map was refused
       refused-good : (f : Miss) → pinned.fault ≡ Some f → OutcomeGood D b a H m x (answer_noted c note taken a) (answered_now D c (consumed k) taken f (with_grants pinned.grants (with_rings (consumed_on c k H.rings) H)) m x)
@@ -341,17 +324,17 @@ module _ {X : Type 0} (D : Rules X) (laws : Laws D) (b : Bay) (a : Account) (H :
         ticket_free = free_ticket H.rings.jobs c few-jobs
 
         note-free : at a.jobs ticket ≡ None
-        note-free = no_job_noted H.grants.handles H.rings a.connections a.jobs i.links ticket ticket_free
+        note-free = note_free H.grants.handles H.rings a.connections a.jobs i.links ticket ticket_free
 
         ticket-below : ticket < length a.jobs
-        ticket-below = omega (arith, ticket_range H.rings.jobs c, below, job_notes_size H.grants.handles H.rings a.connections a.jobs i.links)
+        ticket-below = ticket_inside H.grants.handles H.rings a.connections a.jobs i.links c below
 
         work-same : host_work pinned.job ≡ noted_work (job-note ticket k.guest)
         work-same = work_is _ _ _ _ _ _ _ _ _ _ _ _ _ _ both.0.connection (both.0.kind ∙ sym kind-same) both.0.id both.0.operation both.0.direction (sym both.1) (sym both.2)
 
         handed-good : accepting D x (order_for ticket (asked taken)) ≡ Ok tt
             → OutcomeGood D b a H m x (account-then ticket k.guest)
-            (record { answer = Ok HandedOver; host = with_rings (with_job ticket (Some pinned.job) (consumed_on c k H.rings)) (with_grants pinned.grants (with_rings (consumed_on c k H.rings) H)); memory = m; device = D.with_order x (order_for ticket (asked taken)) })
+            (record { answer = Ok HandedOver; host = with_handed ticket pinned (with_rings (consumed_on c k H.rings) H); memory = m; device = D.with_order x (order_for ticket (asked taken)) })
         handed-good accepted =
             let p = both.0 in
             let uses : (h : ℕ) → h < 64 → cond {A = ℕ} (is_some (at pinned.grants.handles (key 0 h))) 1 0 ≡ cond {A = ℕ} (is_some (at H.grants.handles (key 0 h))) 1 0 + count_by (λ y. eqb y h) (handles_of pinned.job) = λ h l. omega (arith, p.uses h l) in
@@ -387,7 +370,7 @@ module _ {X : Type 0} (D : Rules X) (laws : Laws D) (b : Bay) (a : Account) (H :
               owners = p.owners;
               alters = λ f h wr. refl;
               response = λ c' j n q e low high at-index. elim (at_set (segments k.guest).account.connections c c' (Some (with_request taken note)) n e) [
-                | inl here ↦ no_answer a c' j note n (ap (λ d. at a.connections d) here.0 ∙ there) (ap (λ (y : ConnectionNote). y.answered) (sym (some_is _ _ here.1))) low high
+                | inl here ↦ no_answer a c' j note n (ap (λ d. at a.connections d) here.0 ∙ there) (ap (λ (y : ConnectionNote). y.answered) (sym (same_Some _ _ here.1))) low high
                 | inr other ↦ no_response a a refl c' j n (ap (λ cs. at cs c') (sym p.connections) ∙ other.1) low high
               ];
               unbroken = λ e q. let z : ◌≡◌ {A = ℕ} 0 1 = cc in omega arith;
@@ -418,7 +401,7 @@ module _ {X : Type 0} (D : Rules X) (laws : Laws D) (b : Bay) (a : Account) (H :
     served-on-good bay-same =
         let busy = is_full D x || has_two_jobs H.rings.jobs c in
         by_either Served (look busy k m) _ _
-        (λ found e. by_cond Served found _ _
+        (λ found e. cond_both found _ _ Served
         (λ yes. spent-good bay-same (or_parts (is_full D x) (has_two_jobs H.rings.jobs c) (look_free busy k m (subst (λ (z : Bool). look busy k m ≡ Ok z) yes e))).1)
         (λ no. idle_good))
         (λ e q. outcome_same (Err e) (λ z r. look_ring busy k m e q z (let y : e ≡ OfDevice z = cc in y)))

@@ -1,20 +1,20 @@
 -- The calls that touch one table: take, give, load, store, entry, end, map, unmap, send, next.
-use Rattle.std.proofs.Common.{◌≡◌, ℕ, ◌+◌, ◌-◌, ◌*◌, ◌<◌, ◌≤◌, Bool, true, false, cond, not, ◌||◌, eqb, ltb, ◌⊎◌, List, [], length, get_or, set, is_some, Some, None, Ok, Err, Option, Result, sym, refl, ap, ◌∙◌, subst, inl, inr, arith}
+use Rattle.std.proofs.Common.{◌≡◌, ℕ, ◌+◌, ◌-◌, ◌*◌, ◌<◌, ◌≤◌, Bool, true, false, cond, not, ◌||◌, eqb, ◌⊎◌, List, [], length, get_or, set, Some, None, Ok, Err, Option, Result, sym, refl, ap, ◌∙◌, subst, inl, inr, arith}
 use Rattle.std.proofs.lemmas.List.{get_or-set_same, get_or-set_other}
-use Rattle.std.proofs.lemmas.Bool.{eqb-false, cases_eq, cases_lt, not-false, ltb-true, ltb-false, or_parts, or_cases, both_ways}
+use Rattle.std.proofs.lemmas.Bool.{cases_eq, cases_lt, not-false, ltb-true, ltb-false, or_parts, or_cases, both_ways, eqb-false}
 use Rattle.rules.specs.Tables.{at}
-use Rattle.rules.specs.Refusal.{refuse_first, after_ok, if_some}
+use Rattle.rules.specs.Refusal.{refuse_first, after_ok}
 use Rattle.rules.proofs.Refusals.{none-held}
 use Rattle.device.specs.Meaning.{Rules}
 use Rattle.frame.specs.Owners.{owner_of, owns, take_rules, give_rules, with_owner}
 use Rattle.frame.specs.Access.{access_rules}
 use Rattle.frame.specs.Memory.{frame_bytes, zeroed, placed, bytes_at}
 use Rattle.frame.specs.declared.fault.FrameFault.{FrameFault}
+use Rattle.frame.proofs.Placing.{placed_in_frame}
 use Rattle.grant.specs.Tables.{blank, pins, place, key, entry_at, maps_frame, writes_frame}
 use Rattle.grant.specs.Entries.{entry_rules, end_rules, with_entry, with_flags}
 use Rattle.grant.specs.Map.{map_verdict, unmap_verdict, mode_of}
-use Rattle.grant.specs.Pin.{pin, unpin, unused}
-use Rattle.grant.specs.declared.tables.Mapping.{Mapping}
+use Rattle.grant.specs.Pin.{pin, unpin}
 use Rattle.grant.specs.declared.tables.Grants.{Grants}
 use Rattle.grant.specs.declared.fault.GrantFault.{GrantFault}
 use Rattle.event.specs.declared.pending.Events.{Events}
@@ -29,20 +29,17 @@ use Rattle.backend.specs.declared.tables.Tables.{Tables}
 use Rattle.law.specs.World.{World, with_frames, with_grants, with_events, with_host, with_memory}
 use Rattle.law.specs.Call.{Take, Give, Load, Store, Entry, End, Map, Unmap, Send, Next}
 use Rattle.law.specs.Step.{proceeds, told, passed_up, send_rules, guests_end, next_port}
-use Rattle.law.specs.Account.{Account, MappingNote, counted, accepted, noted, noted_owner, noted_entry, mapping_noted, mapping_ended}
+use Rattle.law.specs.Account.{Account, accepted, noted, noted_owner, noted_entry, mapping_noted, mapping_ended}
 use Rattle.law.specs.Keeps.{Writes, LiveEnd}
 use Rattle.law.specs.Law.{Picks}
 use Rattle.law.proofs.Inv.{Inv, Words, Links, BooksOf, Requests, BayHeld}
 use Rattle.law.proofs.Books.{books_taken, books_given, books_entry, books_ended, books_pinned, books_unpinned, unmap_accepted, pinned-owned, owns_parts, writes_from}
 use Rattle.law.proofs.Links.{links_elsewhere, connection-noted}
-use Rattle.law.proofs.Tickets.{taken_inside}
-use Rattle.law.proofs.Bytes.{zeroed-size, zeroed-others, placed-size, stored_others, page_there}
+use Rattle.law.proofs.Released.{ended_rest, freed_other}
+use Rattle.law.proofs.Tickets.{none_unless, taken_inside}
+use Rattle.law.proofs.Bytes.{zeroed-size, zeroed-others, placed-size, page_there}
 use Rattle.law.proofs.Marks.{marked_words, dropped_words, next_pending}
 use Rattle.law.proofs.Good.{Good, Unbroken, after, good_same, good_by, good_quiet, no_response}
-
-none_of : {X : Type 0} (o : Option X) → is_some o ≡ false → o ≡ None
-none_of None e = refl
-none_of (Some x) e = absurd (both_ways true e refl)
 
 -- faults of the layers of frames, grants and events are no device's
 pub in_frame : (e : FrameFault) → Unbroken (InFrame e)
@@ -56,26 +53,6 @@ in_event e x q = let z : ◌≡◌ {A = ℕ} 0 1 = cc in omega arith
 
 no_port : (p : ℕ) → (Done ≡ Port p → ⊥) × (Done ≡ Connected p → ⊥)
 no_port p = (λ e. let z : ◌≡◌ {A = ℕ} 0 1 = cc in omega arith, λ e. let z : ◌≡◌ {A = ℕ} 0 1 = cc in omega arith)
-
--- a frame that the domain d has just been made the owner of, and one that keeps its owner
-owner-set : (os : List (Option ℕ)) (f : ℕ) (o : Option ℕ) (g : ℕ) → (g ≡ f → ⊥) → at (set os f o) g ≡ at os g
-owner-set os f o g n = get_or-set_other os f g o None n
-
--- ending a mapping leaves what the account has of connections, jobs and owners
-pub ended_keeps : (d h : ℕ) (a : Account) → ((mapping_ended d h a).connections ≡ a.connections) × ((mapping_ended d h a).jobs ≡ a.jobs) × ((mapping_ended d h a).owners ≡ a.owners)
-ended_keeps d h a = by (at a.mappings (key d h))
-  where
-    by : (o : Option MappingNote) → ((if_some o a (λ (n : MappingNote). record { owners = a.owners; entries = a.entries; mappings = set a.mappings (key d h) None; maps = a.maps; unmaps = counted n.mapping.frame a.unmaps; connections = a.connections; jobs = a.jobs })).connections ≡ a.connections) × ((if_some o a (λ (n : MappingNote). record { owners = a.owners; entries = a.entries; mappings = set a.mappings (key d h) None; maps = a.maps; unmaps = counted n.mapping.frame a.unmaps; connections = a.connections; jobs = a.jobs })).jobs ≡ a.jobs) × ((if_some o a (λ (n : MappingNote). record { owners = a.owners; entries = a.entries; mappings = set a.mappings (key d h) None; maps = a.maps; unmaps = counted n.mapping.frame a.unmaps; connections = a.connections; jobs = a.jobs })).owners ≡ a.owners)
-    by None = (refl, refl, refl)
-    by (Some n) = (refl, refl, refl)
-
--- an unpin leaves every other handle
-unpin_elsewhere : (G : Grants) (d h : ℕ) (p : Mapping) (k : ℕ) → (k ≡ key d h → ⊥) → at (unpin d h p G).handles k ≡ at G.handles k
-unpin_elsewhere G d h p k n = by (ltb (place p.owner p.reference) 256)
-  where
-    by : (b : Bool) → at (set (cond b (unused (place p.owner p.reference) p.mode G) G).handles (key d h) None) k ≡ at G.handles k
-    by true = get_or-set_other G.handles (key d h) k None None n
-    by false = get_or-set_other G.handles (key d h) k None None n
 
 next_same : (d d' : ℕ) → Next d ≡ Next d' → d ≡ d'
 next_same d d' e = cc
@@ -94,7 +71,7 @@ module _ {M N : Type 0} (R : Rules M) (S : Rules N) (pick : ℕ → ℕ) (pk : P
       (λ t q.
       let none = (none-held (take_rules H.frames f) (Ok tt) tt q).0 in
       let exists : f < H.frames.count = ltb-true f H.frames.count (not-false _ none.0) in
-      let free : owner_of H.frames f ≡ None = none_of (owner_of H.frames f) none.1.0 in
+      let free : owner_of H.frames f ≡ None = none_unless (owner_of H.frames f) none.1.0 in
       let inside : 4096 * f + 4096 ≤ length w.memory = page_there H.frames.count f w.memory i.memory exists in
       let few = i.few in
       let size : length a.owners ≡ 256 = ap length (sym i.books.owners_same) ∙ i.books.sound.owners_size in
@@ -112,7 +89,7 @@ module _ {M N : Type 0} (R : Rules M) (S : Rules N) (pick : ℕ → ℕ) (pk : P
         count = refl;
         owner = λ g h. elim (cases_eq g f) [
           | inl e ↦ absurd (pinned-owned H.frames H.grants a i.books g h (subst (λ x. owner_of H.frames x ≡ None) (sym e) free))
-          | inr n ↦ owner-set a.owners f (Some d) g n
+          | inr n ↦ get_or-set_other a.owners f g (Some d) None n
         ];
         alters = λ g h mine wr. elim (cases_eq g f) [
           | inl e ↦ absurd (mine (subst (λ x. at (set a.owners f (Some d)) x ≡ Some d) (sym e) (get_or-set_same a.owners f (Some d) None (omega arith))))
@@ -146,7 +123,7 @@ module _ {M N : Type 0} (R : Rules M) (S : Rules N) (pick : ℕ → ℕ) (pk : P
         count = refl;
         owner = λ g h. elim (cases_eq g f) [
           | inl e ↦ absurd (let some : 0 < pins H.grants.records f = subst (λ x. 0 < pins H.grants.records x) e h in omega arith)
-          | inr n ↦ owner-set a.owners f None g n
+          | inr n ↦ get_or-set_other a.owners f g None None n
         ];
         alters = λ g h mine wr. refl;
         response = λ k j n q e low high at-index. no_response a (noted_owner f None a) refl k j n e low high;
@@ -195,7 +172,7 @@ module _ {M N : Type 0} (R : Rules M) (S : Rules N) (pick : ℕ → ℕ) (pk : P
             | inl own ↦ mine (subst (λ x. at a.owners x ≡ Some d) (sym e) (ap (λ os. at os f) (sym i.books.owners_same) ∙ (owns_parts H.frames d f own).1))
             | inr held ↦ wr (subst (λ x. Writes a d x) (sym e) (writes_from H.frames H.grants a i.books d f held))
           ])
-          | inr n ↦ stored_others f o bs w.memory g fits inside n
+          | inr n ↦ placed_in_frame f o bs w.memory fits inside g n
         ];
         response = λ k j n q e low high at-index. no_response a a refl k j n e low high;
         unbroken = λ x e. let z : ◌≡◌ {A = ℕ} 0 1 = cc in omega arith;
@@ -263,15 +240,16 @@ module _ {M N : Type 0} (R : Rules M) (S : Rules N) (pick : ℕ → ℕ) (pk : P
       (λ p q.
       let u = unmap_accepted H.grants d h p q in
       let G' = unpin d h p H.grants in
-      let others : (h' : ℕ) → h' < 64 → at G'.handles (key 0 h') ≡ at H.grants.handles (key 0 h') = λ h' l. unpin_elsewhere H.grants d h p (key 0 h') (apart d h h' guest l) in
-      let same = ended_keeps d h a in
+      let others : (h' : ℕ) → h' < 64 → at G'.handles (key 0 h') ≡ at H.grants.handles (key 0 h') =
+      λ h' l. ap (λ (G : Grants). at G.handles (key 0 h')) u.2 ∙ freed_other H.grants d h (key 0 h') u.0 (apart d h h' guest l) in
+      let same = ended_rest d h a in
       good_quiet R S pick a (mapping_ended d h a) w _ (Unmap d h) Done
       (regranted G' (mapping_ended d h a)
       (subst (λ G. BooksOf H.frames G (mapping_ended d h a)) (sym u.2) (books_unpinned H.frames H.grants a d h below u.0 i.books))
-      (subst (λ cs. Links G'.handles H.rings cs (mapping_ended d h a).jobs) (sym same.0) (subst (λ js. Links G'.handles H.rings a.connections js) (sym same.1)
+      (subst (λ cs. Links G'.handles H.rings cs (mapping_ended d h a).jobs) (sym same.connections) (subst (λ js. Links G'.handles H.rings a.connections js) (sym same.jobs)
       (links_elsewhere H.grants.handles G'.handles H.rings a.connections a.jobs others i.links)))
-      same.0 same.1)
-      refl refl same.2 same.0 no_port)
+      same.connections same.jobs)
+      refl refl same.owners same.connections no_port)
       (λ e q. in_grant e)
 
   -- other ports are marked, or marks dropped

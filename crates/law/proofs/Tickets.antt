@@ -1,11 +1,15 @@
 -- Tables of places that are free or taken, and the tickets of a connection.
-use Rattle.std.proofs.Common.{◌≡◌, ℕ, zero, suc, ◌+◌, ◌*◌, ◌<◌, ◌≤◌, Bool, true, false, cond, ◌&&◌, ◌⊎◌, List, [], ◌∷◌, map, length, get_or, set, replicate, is_some, Some, None, sum_by, count_by, Option, sym, refl, ap, ◌∙◌, inl, inr, arith}
+use Rattle.std.proofs.Common.{◌≡◌, ℕ, suc, ◌+◌, ◌*◌, ◌<◌, ◌≤◌, Bool, true, false, cond, ◌&&◌, ◌⊎◌, List, [], ◌∷◌, map, length, get_or, set, is_some, Some, None, sum_by, count_by, Option, sym, refl, ap, ◌∙◌, subst, inl, inr, arith}
 use Rattle.std.specs.Option.{option_map}
+use lib.ListN.{get_or-map}
+use Rattle.std.proofs.lemmas.Option.{none-some, cond_some}
 use Rattle.std.proofs.lemmas.List.{get_or-set_same, get_or-set_other, get_or_past, set_past, length-set, map-set}
 use Rattle.std.proofs.lemmas.List.Sums.{sum_by-set, sum_by-cons, get_or-le-sum_by}
 use Rattle.std.proofs.lemmas.Bool.{cases_eq, cases_lt}
 use Rattle.rules.specs.Tables.{at}
-use Rattle.connection.specs.Tables.{next_ticket, has_two_jobs}
+use Rattle.connection.specs.Tables.{bay_of, same_bay, in_bay, next_ticket, has_two_jobs}
+use Rattle.connection.specs.declared.kinds.Bay.{Bay}
+use Rattle.connection.specs.declared.tables.Job.{Job}
 
 -- nothing is not something
 pub none_some : {X : Type 0} {P : Type 0} (o : Option X) (x : X) → o ≡ None → o ≡ Some x → P
@@ -37,18 +41,6 @@ at_set {X} xs i k v x e = elim (cases_eq k i) [
 pub set_taken : {X : Type 0} (xs : List (Option X)) (i : ℕ) (v : Option X) (x : X) → at xs i ≡ Some x → at (set xs i v) i ≡ v
 set_taken xs i v x e = get_or-set_same xs i v None (taken_inside xs i x e)
 
--- in a list of equal elements each is that one
-pub at-replicate : {X : Type 0} (n i : ℕ) (x : X) → get_or (replicate n x) i x ≡ x
-at-replicate zero i x = refl
-at-replicate (suc n) zero x = refl
-at-replicate (suc n) (suc i) x = at-replicate n i x
-
--- what is done to each thing of a table shows place by place
-pub at-mapped : {X Y : Type 0} (f : X → Y) (xs : List (Option X)) (k : ℕ) → at (map (option_map f) xs) k ≡ option_map f (at xs k)
-at-mapped f [] k = refl
-at-mapped f (x ∷ xs) zero = refl
-at-mapped f (x ∷ xs) (suc k) = at-mapped f xs k
-
 -- of two places that show the same, if one is taken, so is the other
 pub mapped_too : {X Y Z : Type 0} (f : X → Z) (g : Y → Z) (o : Option X) (p : Option Y) (x : X) → option_map f o ≡ option_map g p → o ≡ Some x
     → (y : Y) × ((p ≡ Some y) × (g y ≡ f x))
@@ -59,7 +51,7 @@ mapped_too f g (Some w) (Some y) x e q = (y, (refl, cc))
 -- two tables that show the same do so at each place
 pub same_places : {X Y Z : Type 0} (f : X → Z) (g : Y → Z) (xs : List (Option X)) (ys : List (Option Y)) → map (option_map f) xs ≡ map (option_map g) ys
     → (k : ℕ) → option_map f (at xs k) ≡ option_map g (at ys k)
-same_places {Z = Z} f g xs ys e k = sym (at-mapped f xs k) ∙ ap (λ (zs : List (Option Z)). at zs k) e ∙ at-mapped g ys k
+same_places {Z = Z} f g xs ys e k = sym (get_or-map (option_map f) xs k None) ∙ ap (λ (zs : List (Option Z)). at zs k) e ∙ get_or-map (option_map g) ys k None
 
 -- and if one is free, so is the other
 pub free_too : {X Y Z : Type 0} (f : X → Z) (g : Y → Z) (o : Option X) (p : Option Y) → option_map f o ≡ option_map g p → o ≡ None → p ≡ None
@@ -80,7 +72,7 @@ free_or_taken None = inl refl
 free_or_taken (Some x) = inr (x, refl)
 
 -- a place that is not taken is free
-none_unless : {X : Type 0} (o : Option X) → is_some o ≡ false → o ≡ None
+pub none_unless : {X : Type 0} (o : Option X) → is_some o ≡ false → o ≡ None
 none_unless None e = refl
 none_unless (Some x) e = absurd (let z : ◌≡◌ {A = ℕ} 0 1 = cc in omega arith)
 
@@ -88,6 +80,13 @@ none_unless (Some x) e = absurd (let z : ◌≡◌ {A = ℕ} 0 1 = cc in omega a
 free_of_two : {X : Type 0} (o p : Option X) → (is_some o && is_some p) ≡ false → ((is_some o ≡ true) × (p ≡ None)) ⊎ ((is_some o ≡ false) × (o ≡ None))
 free_of_two None p e = inr (refl, refl)
 free_of_two (Some x) p e = inl (refl, none_unless p e)
+
+-- the job in a bay is the one of the place, and of that bay
+pub in_bay_is : (b : Bay) (o : Option Job) (j : Job) → in_bay b o ≡ Some j → (o ≡ Some j) × (same_bay (bay_of j.kind) b ≡ true)
+in_bay_is b None j e = absurd (none-some j e)
+in_bay_is b (Some i) j e =
+    let w = cond_some (same_bay (bay_of i.kind) b) i j e in
+    (ap Some w.1, subst (λ (x : Job). same_bay (bay_of x.kind) b ≡ true) w.1 w.0)
 
 -- the ticket of a connection's next job is free
 pub free_ticket : {X : Type 0} (jobs : List (Option X)) (c : ℕ) → has_two_jobs jobs c ≡ false → at jobs (next_ticket jobs c) ≡ None

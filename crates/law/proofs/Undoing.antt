@@ -1,8 +1,9 @@
 -- Segments that were mapped are unmapped again, the last first: nothing is left of them but flag bits, and the frame
 -- and the mapper of a record.
-use Rattle.std.proofs.Common.{◌≡◌, ℕ, zero, suc, ◌+◌, ◌%◌, ◌<◌, ◌≤◌, List, [], ◌∷◌, ◌++◌, map, length, get_or, set, Some, None, Ok, Option, sym, refl, ap, ◌∙◌, subst, arith}
+use Rattle.std.proofs.Common.{◌≡◌, ℕ, ◌+◌, ◌%◌, ◌<◌, ◌≤◌, List, [], ◌∷◌, ◌++◌, map, length, get_or, set, Some, None, Ok, sym, refl, ap, ◌∙◌, subst, arith}
 use Rattle.std.specs.Option.{option_map}
 use Rattle.std.proofs.lemmas.List.{length-set, set-set, set-get_or}
+use Rattle.std.proofs.lemmas.List.Elements.{All-push, All-from_get_or}
 use Rattle.rules.specs.Tables.{at}
 use Rattle.abi.specs.declared.entry.GrantEntry.{GrantEntry}
 use Rattle.frame.specs.declared.owners.Frames.{Frames}
@@ -17,9 +18,11 @@ use Rattle.connection.specs.declared.tables.Job.{Job}
 use Rattle.backend.specs.Segments.{mode_for, part_in, MappingDone, pin_all, released_all}
 use Rattle.law.specs.Account.{Account, MappingNote, mapping_noted, mapping_ended, mappings_ended}
 use Rattle.law.proofs.Inv.{BooksOf}
-use Rattle.law.proofs.Books.{map-accepted}
+use Rattle.grant_law.proofs.Verdicts.{map_accepted}
+use Rattle.law.proofs.Books.{no_note}
 use Rattle.law.proofs.Released.{ended_rest, ended_mappings, segments_released}
-use Rattle.law.proofs.Segments.{by_either, next_is, next_job, next_grants, next_account, next_books, next_handles}
+use Rattle.law.proofs.Cases.{by_either}
+use Rattle.law.proofs.Segments.{next_is, next_job, next_grants, next_account, next_books, next_handles}
 
 -- the two accounts have the same frames, entries and mappings
 record SameBooks (a b : Account) : Type 0 where
@@ -47,13 +50,6 @@ same_after_all (h ∷ hs) a b s = same_after 0 h (mappings_ended hs a) (mappings
 last_first : (hs : List ℕ) (h : ℕ) (a : Account) → mappings_ended (hs ++ h ∷ []) a ≡ mappings_ended hs (mapping_ended 0 h a)
 last_first [] h a = refl
 last_first (x ∷ hs) h a = ap (mapping_ended 0 x) (last_first hs h a)
-
--- a handle that is free in the tables has no mapping in the account
-free_noted : (ms : List (Option MappingNote)) (k : ℕ) → at (map (option_map (λ (n : MappingNote). n.mapping)) ms) k ≡ None → at ms k ≡ None
-free_noted [] k e = refl
-free_noted (None ∷ ms) zero e = refl
-free_noted (Some n ∷ ms) zero e = absurd (let z : ◌≡◌ {A = ℕ} 0 1 = cc in omega arith)
-free_noted (x ∷ ms) (suc k) e = free_noted ms k e
 
 -- a mapping that begins under a free handle and ends leaves the account's mappings as they were
 noted_ended : (h o n : ℕ) (m : Mode) (a : Account) → at a.mappings (key 0 h) ≡ None → SameBooks (mapping_ended 0 h (mapping_noted 0 h o n m a)) a
@@ -101,13 +97,6 @@ undone F H G a b hs k p =
       handles = same ∙ sym k.handles_same;
     }
 
--- one handle more, below 64
-below_more : (hs : List ℕ) (h : ℕ) → h < 64 → ((i : ℕ) → i < length hs → get_or hs i 0 < 64) → (i : ℕ) → i < length (hs ++ h ∷ []) → get_or (hs ++ h ∷ []) i 0 < 64
-below_more [] h l b zero m = l
-below_more [] h l b (suc i) m = absurd (omega arith)
-below_more (x ∷ hs) h l b zero m = b 0 (omega arith)
-below_more (x ∷ hs) h l b (suc i) m = below_more hs h l (λ n c. b (suc n) (omega arith)) i (omega arith)
-
 module _ (F : Frames) (H : Grants) (b : Account) (guest : ℕ) (start : BooksOf F H b) where
   -- a segment more is mapped
   pinned-more : (G : Grants) (a : Account) (i : ℕ) (j : Job) (s : Span) (g : Grant) → PinnedOn F G a b (handles_of j)
@@ -115,8 +104,8 @@ module _ (F : Frames) (H : Grants) (b : Account) (guest : ℕ) (start : BooksOf 
       → (ok : map_verdict F G 0 guest s.reference (mode_for j.direction) ≡ Ok g)
       → PinnedOn F (next_grants F G a guest i j s g k c l hl pl ok) (next_account F G a guest i j s g k c l hl pl ok) b (handles_of (next_job F G a guest i j s g k c l hl pl ok))
   pinned-more G a i j s g p k c l hl pl ok =
-      let yes = map-accepted F G 0 guest s.reference (mode_for j.direction) g (omega arith) k.sound.handles_size ok in
-      let free : at a.mappings (key 0 g.handle) ≡ None = free_noted a.mappings (key 0 g.handle) (sym (ap (λ hs. at hs (key 0 g.handle)) k.handles_same) ∙ yes.free) in
+      let yes = map_accepted F G 0 guest s.reference (mode_for j.direction) g (omega arith) k.sound.handles_size ok in
+      let free : at a.mappings (key 0 g.handle) ≡ None = no_note F G a k (key 0 g.handle) yes.free in
       let a1 : Account = mapping_noted 0 g.handle guest s.reference (mode_of (mode_for j.direction)) a in
       let e = next_is F G a guest i j s g k c l hl pl ok in
       let x = same_after_all (handles_of j) (mapping_ended 0 g.handle a1) a (noted_ended g.handle guest s.reference (mode_of (mode_for j.direction)) a free) in
@@ -127,7 +116,7 @@ module _ (F : Frames) (H : Grants) (b : Account) (guest : ℕ) (start : BooksOf 
       }) in
       rw (next_handles F G a guest i j s g k c l hl pl ok) (record {
         books = next_books F G a guest i j s g k c l hl pl ok;
-        below = below_more (handles_of j) g.handle yes.handle p.below;
+        below = λ n. All-push (λ x. x < 64) (handles_of j) g.handle (All-from_get_or (λ x. x < 64) (handles_of j) 0 p.below) yes.handle n 0;
         back = subst (λ (h : ℕ). SameBooks (mappings_ended (handles_of j ++ g.handle ∷ []) (mapping_noted 0 h guest s.reference (mode_of (mode_for j.direction)) a)) b) (sym e) back;
       })
 

@@ -1,5 +1,6 @@
 -- What is true of one call of a run, sentence by sentence.
 use Rattle.std.specs.Prelude.{◌≡◌, ℕ, ◌+◌, ◌*◌, ◌<◌, ◌≤◌, Bool, true, false, cond, ◌⊎◌, List, [], ◌∷◌, map, length, ℤ, Some, None, Ok, Err, count_by, Option, ◌==◌, ◌≢◌, slice_index}
+use Rattle.std.specs.List.{filter}
 use Rattle.std.specs.Option.{option_map}
 use Rattle.abi.specs.Index.{shown}
 use Rattle.abi.specs.Page.{slot_start}
@@ -89,8 +90,7 @@ on_frame f (Some n) = n.mapping.frame == f
 
 -- the orders under the ticket t
 abbrev pub under_ticket : ℕ → List Order → List Order
-under_ticket t [] = []
-under_ticket t (o ∷ os) = cond (o.ticket == t) (o ∷ under_ticket t os) (under_ticket t os)
+under_ticket t os = filter (λ o. o.ticket == t) os
 
 -- the order that serve handed to the bay's device for this job, if it is a job of the bay
 abbrev pub handed : Bay → Option JobNote → List Order

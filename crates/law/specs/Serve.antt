@@ -31,6 +31,14 @@ pub record Outcome (X : Type 0) : Type 0 where
 abbrev pub responded : ℕ → Connection → List ℕ → Tables → Tables
 responded c k after H = with_rings (responded_rings c k H.rings) (with_events (responded_events c k after H.events) H)
 
+-- what becomes of mapping the segments of the request a of the connection c, which is k
+abbrev pub mapping_for : ℕ → Connection → Asked → Tables → MappingDone
+mapping_for c k a H = pin_all H.frames k.guest 0 (job_for c k.kind a) H.grants a.spans
+
+-- the tables where the job that was mapped is in hand, under the ticket t
+abbrev pub with_handed : ℕ → MappingDone → Tables → Tables
+with_handed t p H = with_rings (with_job t (Some p.job) H.rings) (with_grants p.grants H)
+
 module _ {X : Type 0} (D : Rules X) where
   -- the request q of the connection c, which is k, is answered at once
   abbrev pub answered_now : ℕ → Connection → Request → Miss → Tables → List ℕ → X → Outcome X
@@ -45,7 +53,7 @@ module _ {X : Type 0} (D : Rules X) where
       either_of (accepting D x (order_for t a))
       (λ _. record {
         answer = Ok HandedOver;
-        host = with_rings (with_job t (Some p.job) H.rings) (with_grants p.grants H);
+        host = with_handed t p H;
         memory = m;
         device = D.with_order x (order_for t a);
       })
@@ -54,7 +62,7 @@ module _ {X : Type 0} (D : Rules X) where
   -- the segments of a request that passed its checks are mapped, as far as that goes
   abbrev pub segments_mapped : ℕ → Connection → Request → Asked → Tables → List ℕ → X → Outcome X
   segments_mapped c k q a H m x =
-      let p : MappingDone = pin_all H.frames k.guest 0 (job_for c k.kind a) H.grants a.spans in
+      let p : MappingDone = mapping_for c k a H in
       if_some p.fault
       (handed_over c k q a p H m x)
       (λ f. answered_now c k q f (with_grants p.grants H) m x)

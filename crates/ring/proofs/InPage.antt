@@ -50,7 +50,7 @@ request_cut Send k at n m h = ap (λ vs. OfSend (send_request.of vs)) (read_at_c
 request_cut Receive k at n m h = ap (λ vs. OfReceive (receive_request.of vs)) (read_at_cut receive_request.layout k at n m h)
 
 -- every slot lies inside the page
-slot_inside : (kind : Kind) (index : ℕ) → slot_start kind index + slot_size kind ≤ 4096
+pub slot_inside : (kind : Kind) (index : ℕ) → slot_start kind index + slot_size kind ≤ 4096
 slot_inside Block index = omega arith
 slot_inside Send index = omega arith
 slot_inside Receive index = omega arith

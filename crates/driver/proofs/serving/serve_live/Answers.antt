@@ -12,7 +12,8 @@ use Rattle.backend.specs.Look.{look, consumed, consumed_on}
 use Rattle.backend.specs.declared.consumed.Consumed.{Consumed}
 use Rattle.law.specs.World.{with_rings}
 use Rattle.law.specs.Serve.{Outcome, spent}
-use Rattle.driver.proofs.Leaving.{ticket_free, none_free, found_ticket, found_fault, found_none, within_some, leaves_by, looked_at}
+use Rattle.law.proofs.Tickets.{taken_inside}
+use Rattle.driver.proofs.Leaving.{ticket_free, none_free, found_ticket, found_fault, found_none, leaves_by, looked_at}
 use Rattle.driver.proofs.serving.serve_live.Goals as goal
 
 pub spend-requires : goal.spend-requires
@@ -28,7 +29,7 @@ spend-requires g c =
     let free = ticket_free busy (next_ticket C.jobs n) c.in-Some.ticket (sym c.free_ticket-ticket.ensures ∙ found.1) in
     record {
       live = ap₂ (λ (K : Rings) (t : Consumed). connection_at K t.connection) rings token
-          ∙ get_or-set_same C.connections n (Some (consumed k)) None (within_some C.connections n k c.requires);
+          ∙ get_or-set_same C.connections n (Some (consumed k)) None (taken_inside C.connections n k c.requires);
       ticket = free.1 ∙ sym (ap₂ (λ (K : Rings) (t : Consumed). next_ticket K.jobs t.connection) rings token);
     }
 
