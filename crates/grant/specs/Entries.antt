@@ -18,9 +18,8 @@ entry_rules reference = (no_reference reference, NoReference) ∷ []
 
 abbrev pub end_rules : Grants → ℕ → ℕ → List (Rule GrantFault)
 end_rules G d reference =
-    (no_reference reference, NoReference)
-    ∷ (reading (entry_at G (place d reference)).flags || writing (entry_at G (place d reference)).flags, InUse)
-    ∷ []
+    let e : GrantEntry = entry_at G (place d reference) in
+    (no_reference reference, NoReference) ∷ (reading e.flags || writing e.flags, InUse) ∷ []
 
 -- the tables with another entry at i
 abbrev pub with_entry : ℕ → GrantEntry → Grants → Grants

@@ -8,7 +8,7 @@ use Rattle.frame.specs.Domain.{no_domain}
 use Rattle.frame.specs.Owners.{owns}
 use Rattle.frame.specs.declared.owners.Frames.{Frames}
 use Rattle.grant.specs.Entries.{no_reference}
-use Rattle.grant.specs.Tables.{place, entry_at, record_at, lowest, pinned, in_use}
+use Rattle.grant.specs.Tables.{place, entry_at, record_at, lowest, pinned, in_use, writes}
 use Rattle.grant.specs.declared.tables.Record.{Record}
 use Rattle.grant.specs.declared.tables.Mapping.{Mapping}
 use Rattle.grant.specs.declared.tables.Mode.{Mode}
@@ -61,7 +61,7 @@ map_rules F G d owner reference mode =
     ∷ (no_reference reference, NoReference)
     ∷ (not (names e d), NotGranted)
     ∷ (not (owns F owner e.frame), NotOwners)
-    ∷ (mode == 1 && read_only e.flags, ReadOnly)
+    ∷ (writes (mode_of mode) && read_only e.flags, ReadOnly)
     ∷ (pinned r && (not (r.mapper == d) || not (r.frame == e.frame)), PinnedOtherwise)
     ∷ []
 

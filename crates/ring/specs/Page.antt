@@ -18,23 +18,25 @@ offset_of ReqEvent = 4
 offset_of RspProd = 8
 offset_of RspEvent = 12
 
--- a word of the header: whether the memory has it, and what it says there
+-- whether the memory has a word of the header, and what it says there
 abbrev pub word_verdict : List ℕ → ℕ → Word → Result Unit FrameFault
 word_verdict m page w = part_verdict (length m) page (offset_of w) 4
 
 abbrev pub word_at : List ℕ → ℕ → Word → ℕ
 word_at m page w = number 4 (4096 * page + offset_of w) m
 
+-- the word, or why it cannot be read
 abbrev pub word_in : List ℕ → ℕ → Word → Result ℕ FrameFault
 word_in m page w = granting (λ _. word_at m page w) (word_verdict m page w)
 
--- the slot that an index uses: whether the memory has it, where it stands there, and the request in it
+-- whether the memory has the slot that an index uses, and where that starts
 abbrev pub slot_verdict : List ℕ → ℕ → Kind → ℕ → Result Unit FrameFault
 slot_verdict m page kind i = part_verdict (length m) page (slot_start kind i) (slot_size kind)
 
 abbrev pub slot_place : ℕ → Kind → ℕ → ℕ
 slot_place page kind i = 4096 * page + slot_start kind i
 
+-- the request in the slot, or why it cannot be read
 abbrev pub request_in : List ℕ → ℕ → Kind → ℕ → Result Request FrameFault
 request_in m page kind i = granting (λ _. request_at kind (slot_place page kind i) m) (slot_verdict m page kind i)
 
