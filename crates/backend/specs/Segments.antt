@@ -2,11 +2,13 @@
 use Rattle.std.specs.Prelude.{◌≡◌, ℕ, ◌+◌, ◌*◌, min, List, [], ◌∷◌, replicate, Some, None, Ok, Err, Option, Result, slice_set}
 use Rattle.rules.specs.Refusal.{either_of, granting, after_ok, if_some}
 use Rattle.frame.specs.declared.owners.Frames.{Frames}
-use Rattle.grant.specs.Map.{map_verdict}
+use Rattle.grant.specs.Map.{mode_number, map_verdict}
 use Rattle.grant.specs.Pin.{pin, released}
+use Rattle.grant.specs.declared.tables.Mode.TheVariants.{Read, Write}
 use Rattle.grant.specs.declared.tables.Grants.{Grants}
 use Rattle.grant.specs.declared.fault.GrantFault.{GrantFault}
 use Rattle.abi.specs.declared.page.Kind.{Kind}
+use Rattle.blkif.specs.Block.{most_segments}
 use Rattle.device.specs.declared.orders.Direction.{Direction}
 use Rattle.device.specs.declared.orders.Direction.TheVariants.{Inward, Outward}
 use Rattle.device.specs.declared.orders.Order.{Order}
@@ -21,8 +23,8 @@ use Rattle.connection.specs.declared.tables.Job.{Job}
 
 -- bytes that go inward are written into the guest's frames, others read from them
 abbrev pub mode_for : Direction → ℕ
-mode_for Inward = 1
-mode_for Outward = 0
+mode_for Inward = mode_number Write
+mode_for Outward = mode_number Read
 
 -- domain 0's handles are freed, the last first
 abbrev pub released_all : List ℕ → Grants → Grants
@@ -42,8 +44,8 @@ job_for c kind a = record {
   id = a.id;
   operation = a.operation;
   count = 0;
-  handles = replicate 11 0;
-  parts = replicate 11 (record { start = 0; length = 0 });
+  handles = replicate most_segments 0;
+  parts = replicate most_segments (record { start = 0; length = 0 });
 }
 
 -- the job with its segment number i mapped, under the handle h

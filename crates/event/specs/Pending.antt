@@ -11,6 +11,7 @@ new_events = record { pending = replicate 8 0 }
 abbrev pub word : Events → ℕ → ℕ
 word E d = slice_index E.pending d
 
+-- the words with another one of the domain d
 abbrev pub with_word : ℕ → ℕ → Events → Events
 with_word d w E = record { pending = slice_set E.pending d w }
 

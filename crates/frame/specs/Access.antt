@@ -1,7 +1,8 @@
 -- When a domain may load or store a part of a frame.
-use Rattle.std.specs.Prelude.{ℕ, ◌+◌, Bool, not, ◌||◌, List, [], ◌∷◌, nat_lt}
+use Rattle.std.specs.Prelude.{ℕ, Bool, not, ◌||◌, List, [], ◌∷◌}
 use Rattle.rules.specs.Refusal.{Rule}
-use Rattle.frame.specs.Owners.{owns}
+use Rattle.frame.specs.Memory.{past_frame}
+use Rattle.frame.specs.Owners.{is_frame, owns}
 use Rattle.frame.specs.declared.owners.Frames.{Frames}
 use Rattle.frame.specs.declared.fault.FrameFault.{FrameFault}
 use Rattle.frame.specs.declared.fault.FrameFault.TheVariants.{NoFrame, OutOfFrame, NoAccess}
@@ -9,7 +10,7 @@ use Rattle.frame.specs.declared.fault.FrameFault.TheVariants.{NoFrame, OutOfFram
 -- `held` says whether the domain has a mapping of the frame that does for what it wants
 abbrev pub access_rules : Frames → Bool → ℕ → ℕ → ℕ → ℕ → List (Rule FrameFault)
 access_rules F held d f offset n =
-    (not (nat_lt f F.count), NoFrame)
-    ∷ (nat_lt 4096 (offset + n), OutOfFrame)
+    (not (is_frame F f), NoFrame)
+    ∷ (past_frame offset n, OutOfFrame)
     ∷ (not (owns F d f || held), NoAccess)
     ∷ []

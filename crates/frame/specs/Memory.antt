@@ -1,5 +1,5 @@
 -- Frames as parts of the memory: frame f has the 4,096 bytes from 4,096 × f on.
-use Rattle.std.specs.Prelude.{◌≡◌, ℕ, ◌+◌, ◌*◌, List, [], ◌∷◌, ◌++◌, length, take, drop, replicate, Ok, Result, ◌≢◌, nat_lt}
+use Rattle.std.specs.Prelude.{◌≡◌, ℕ, ◌+◌, ◌*◌, Bool, List, [], ◌∷◌, ◌++◌, length, take, drop, replicate, Ok, Result, ◌≢◌, nat_lt}
 use Rattle.rules.specs.Refusal.{Rule, refuse_first, after_ok}
 use Rattle.frame.specs.declared.fault.FrameFault.{FrameFault}
 use Rattle.frame.specs.declared.fault.FrameFault.TheVariants.{NoFrame, OutOfFrame}
@@ -20,9 +20,13 @@ frame_bytes f m = bytes_at (4096 * f) 4096 m
 abbrev pub zeroed : ℕ → List ℕ → List ℕ
 zeroed f m = placed (4096 * f) (replicate 4096 0) m
 
+-- n bytes at this offset of a frame end past it
+abbrev pub past_frame : ℕ → ℕ → Bool
+past_frame offset n = nat_lt 4096 (offset + n)
+
 -- when a memory of size bytes has no such part of a frame
 abbrev pub part_rules : ℕ → ℕ → ℕ → ℕ → List (Rule FrameFault)
-part_rules size f offset n = (nat_lt size (4096 * f + 4096), NoFrame) ∷ (nat_lt 4096 (offset + n), OutOfFrame) ∷ []
+part_rules size f offset n = (nat_lt size (4096 * f + 4096), NoFrame) ∷ (past_frame offset n, OutOfFrame) ∷ []
 
 abbrev pub part_verdict : ℕ → ℕ → ℕ → ℕ → Result Unit FrameFault
 part_verdict size f offset n = refuse_first (part_rules size f offset n) (Ok tt)

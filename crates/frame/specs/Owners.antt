@@ -14,17 +14,22 @@ new_frames n = record { count = n; owners = replicate 256 None }
 abbrev pub owner_of : Frames → ℕ → Option ℕ
 owner_of F f = at F.owners f
 
+-- the domain d is there
 abbrev pub is_domain : ℕ → Option ℕ → Bool
 is_domain d None = false
 is_domain d (Some x) = x == d
 
+-- the frame f exists
+abbrev pub is_frame : Frames → ℕ → Bool
+is_frame F f = nat_lt f F.count
+
 -- the frame f exists, and the domain d owns it
 abbrev pub owns : Frames → ℕ → ℕ → Bool
-owns F d f = nat_lt f F.count && is_domain d (owner_of F f)
+owns F d f = is_frame F f && is_domain d (owner_of F f)
 
 -- when a frame cannot be taken
 abbrev pub take_rules : Frames → ℕ → List (Rule FrameFault)
-take_rules F f = (not (nat_lt f F.count), NoFrame) ∷ (is_some (owner_of F f), Owned) ∷ []
+take_rules F f = (not (is_frame F f), NoFrame) ∷ (is_some (owner_of F f), Owned) ∷ []
 
 -- when a frame with so many pins cannot be given back
 abbrev pub give_rules : Frames → ℕ → ℕ → ℕ → List (Rule FrameFault)

@@ -1,7 +1,7 @@
 // The bytes of frames, in a memory that is lent to each function.
-ghost use Rattle.std.specs.Prelude.{◌≡◌, ◌+◌, ◌*◌, ◌≤◌, not, nat_lt, length, replicate, IfOk};
+ghost use Rattle.std.specs.Prelude.{◌≡◌, ◌+◌, ◌*◌, ◌≤◌, not, length, replicate, IfOk};
 ghost use Rattle.rules.specs.Refusal.{granting};
-ghost use Rattle.frame.specs.Memory.{part_verdict, Written, ReadPart};
+ghost use Rattle.frame.specs.Memory.{past_frame, part_verdict, Written, ReadPart};
 
 use crate::fault::FrameFault;
 use std::ops::Range;
@@ -11,7 +11,7 @@ pub const FRAME_SIZE: usize = 4096;
 
 // Whether a part lies inside its frame.
 pub(crate) fn fits(offset: u32, size: usize) -> bool
-    ensures { result ≡ not (nat_lt 4096 (offset + size)) }
+    ensures { result ≡ not (past_frame offset size) }
 {
     size <= FRAME_SIZE && offset as usize <= FRAME_SIZE - size
 }

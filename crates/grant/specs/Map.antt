@@ -4,9 +4,11 @@ use Rattle.std.specs.Option.{unwrap_or}
 use Rattle.abi.specs.Entry.{permits, read_only}
 use Rattle.abi.specs.declared.entry.GrantEntry.{GrantEntry}
 use Rattle.rules.specs.Refusal.{Rule, refuse_first, if_some}
+use Rattle.frame.specs.Domain.{no_domain}
 use Rattle.frame.specs.Owners.{owns}
 use Rattle.frame.specs.declared.owners.Frames.{Frames}
-use Rattle.grant.specs.Tables.{place, entry_at, record_at, lowest, pinned, in_use}
+use Rattle.grant.specs.Entries.{no_reference}
+use Rattle.grant.specs.Tables.{place, entry_at, record_at, lowest, pinned, in_use, writes}
 use Rattle.grant.specs.declared.tables.Record.{Record}
 use Rattle.grant.specs.declared.tables.Mapping.{Mapping}
 use Rattle.grant.specs.declared.tables.Mode.{Mode}
@@ -24,16 +26,25 @@ names e d = permits e.flags && e.domid == d
 abbrev pub mode_of : ℕ → Mode
 mode_of n = cond (n == 1) Write Read
 
+-- the number of a mode, as a map's caller writes it
 abbrev pub mode_number : Mode → ℕ
 mode_number Read = 0
 mode_number Write = 1
 
+-- no mode has the number
+abbrev pub no_mode : ℕ → Bool
+no_mode mode = nat_lt 1 mode
+
+-- no domain but d has the number
+abbrev pub no_other_domain : ℕ → ℕ → Bool
+no_other_domain d owner = no_domain owner || (owner == d)
+
 -- when a number is no mode, and when it is no other domain than d
 abbrev pub mode_rules : ℕ → List (Rule GrantFault)
-mode_rules mode = (nat_lt 1 mode, BadMode) ∷ []
+mode_rules mode = (no_mode mode, BadMode) ∷ []
 
 abbrev pub owner_rules : ℕ → ℕ → List (Rule GrantFault)
-owner_rules d owner = (nat_lt 7 owner || (owner == d), BadOwner) ∷ []
+owner_rules d owner = (no_other_domain d owner, BadOwner) ∷ []
 
 -- when an entry grants the domain d nothing of its owner's
 abbrev pub entry_says : Frames → ℕ → ℕ → GrantEntry → List (Rule GrantFault)
@@ -44,13 +55,13 @@ abbrev pub map_rules : Frames → Grants → ℕ → ℕ → ℕ → ℕ → Lis
 map_rules F G d owner reference mode =
     let e : GrantEntry = entry_at G (place owner reference) in
     let r : Record = record_at G (place owner reference) in
-    (nat_lt 1 mode, BadMode)
-    ∷ (nat_lt 7 owner || (owner == d), BadOwner)
+    (no_mode mode, BadMode)
+    ∷ (no_other_domain d owner, BadOwner)
     ∷ (not (is_some (lowest G.handles d)), NoHandle)
-    ∷ (nat_lt 31 reference, NoReference)
+    ∷ (no_reference reference, NoReference)
     ∷ (not (names e d), NotGranted)
     ∷ (not (owns F owner e.frame), NotOwners)
-    ∷ (mode == 1 && read_only e.flags, ReadOnly)
+    ∷ (writes (mode_of mode) && read_only e.flags, ReadOnly)
     ∷ (pinned r && (not (r.mapper == d) || not (r.frame == e.frame)), PinnedOtherwise)
     ∷ []
 
@@ -63,6 +74,7 @@ pub record Grant : Type 0 where
   pub handle : ℕ
   pub mapping : Mapping
 
+-- whether the map is accepted, and with what
 abbrev pub map_verdict : Frames → Grants → ℕ → ℕ → ℕ → ℕ → Result Grant GrantFault
 map_verdict F G d owner reference mode =
     refuse_first (map_rules F G d owner reference mode)

@@ -61,6 +61,7 @@ unused i mode G =
       handles = G.handles;
     }
 
+-- the handle at k is free
 abbrev pub freed : ℕ → Grants → Grants
 freed k G = record { entries = G.entries; records = G.records; handles = slice_set G.handles k None }
 

@@ -9,6 +9,7 @@ use Rattle.grant.specs.declared.tables.Mode.{Mode}
 use Rattle.grant.specs.declared.tables.Mode.TheVariants.{Read, Write}
 use Rattle.grant.specs.declared.tables.Grants.{Grants}
 
+-- an entry that grants nothing, and a record that nobody maps through
 abbrev pub blank : GrantEntry
 blank = record { flags = 0; domid = 0; frame = 0 }
 
@@ -27,6 +28,7 @@ place owner reference = 32 * owner + reference
 abbrev pub key : ℕ → ℕ → ℕ
 key mapper handle = 64 * mapper + handle
 
+-- the entry and the record at i
 abbrev pub entry_at : Grants → ℕ → GrantEntry
 entry_at G i = slice_index_or G.entries i blank
 
@@ -57,6 +59,7 @@ weight f r = cond (r.frame == f) (r.readers + r.writers) 0
 abbrev pub pins : List Record → ℕ → ℕ
 pins rs f = sum_by (weight f) rs
 
+-- the mode is for writing
 abbrev pub writes : Mode → Bool
 writes Read = false
 writes Write = true

@@ -3,8 +3,9 @@ use Rattle.std.specs.Prelude.{ℕ, not, List, [], ◌∷◌, is_some, Some, None
 use Rattle.std.specs.Option.{unwrap_or}
 use Rattle.abi.specs.declared.page.Kind.TheVariants.{Block}
 use Rattle.rules.specs.Refusal.{Rule, refuse_first, passed, if_some}
-use Rattle.grant.specs.Map.{Grant, map_verdict}
+use Rattle.grant.specs.Map.{mode_number, Grant, map_verdict}
 use Rattle.grant.specs.Pin.{pin, released}
+use Rattle.grant.specs.declared.tables.Mode.TheVariants.{Write}
 use Rattle.event.specs.Pending.{dropped}
 use Rattle.ring.specs.Page.{fresh_header}
 use Rattle.ring.specs.Total.{put_in}
@@ -24,7 +25,7 @@ connect_rules H kind =
     ∷ []
 
 abbrev pub connect_verdict : Tables → ℕ → ℕ → ℕ → Result Grant RingFault
-connect_verdict H d kind reference = refuse_first (connect_rules H kind) (passed OfGrant (map_verdict H.frames H.grants 0 d reference 1))
+connect_verdict H d kind reference = refuse_first (connect_rules H kind) (passed OfGrant (map_verdict H.frames H.grants 0 d reference (mode_number Write)))
 
 -- the connection that goes out: the lowest free one
 abbrev pub new_number : Tables → ℕ

@@ -2,6 +2,7 @@
 use Rattle.std.specs.Prelude.{ℕ, ◌+◌, ◌-◌, ◌*◌, Bool, false, cond, not, ◌||◌, List, [], ◌∷◌, length, Some, None, Ok, Err, Option, Result, ◌==◌, nat_lt}
 use Rattle.rules.specs.Refusal.{Rule, refuse_first, after_ok, either_of}
 use Rattle.device.specs.Meaning.{Rules}
+use Rattle.frame.specs.Domain.{no_domain}
 use Rattle.frame.specs.Owners.{take_rules, give_rules, with_owner}
 use Rattle.frame.specs.Access.{access_rules}
 use Rattle.frame.specs.Memory.{bytes_at, placed, zeroed}
@@ -44,11 +45,11 @@ memory_rules H m = (wrong_memory H m, BadMemory) ∷ []
 
 -- a guest's call then refuses a caller outside 1 to 7
 abbrev pub guest_rules : Tables → List ℕ → ℕ → List (Rule HostFault)
-guest_rules H m d = (wrong_memory H m, BadMemory) ∷ (d == 0 || nat_lt 7 d, BadCaller) ∷ []
+guest_rules H m d = (wrong_memory H m, BadMemory) ∷ (d == 0 || no_domain d, BadCaller) ∷ []
 
 -- next also takes domain 0
 abbrev pub next_rules : Tables → List ℕ → ℕ → List (Rule HostFault)
-next_rules H m d = (wrong_memory H m, BadMemory) ∷ (nat_lt 7 d, BadCaller) ∷ []
+next_rules H m d = (wrong_memory H m, BadMemory) ∷ (no_domain d, BadCaller) ∷ []
 
 -- start: a new host of 1 to 256 frames, over memory of just that size
 abbrev pub start_rules : ℕ → List ℕ → List (Rule HostFault)

@@ -1,6 +1,6 @@
 // The checks of a request's own fields, first miss first.
-ghost use Rattle.std.specs.Prelude.{◌≡◌, ◌<◌, ◌≤◌, ◌||◌, length, nat_lt, position, IfSome};
-ghost use Rattle.request.specs.Check.{miss, segment_verdict, field_verdict};
+ghost use Rattle.std.specs.Prelude.{◌≡◌, ◌<◌, ◌≤◌, length, position, IfSome};
+ghost use Rattle.request.specs.Check.{miss, bad_segment, segment_verdict, field_verdict};
 
 use abi::PAGE_SIZE;
 use blkif::{SEGMENTS, Segment};
@@ -25,7 +25,7 @@ impl From<RingFault> for Miss {
 
 // The first segment that ends before it begins, or past its frame's eight sectors.
 fn first_bad(segments: &[Segment]) -> Option<usize>
-    ensures value { result ≡ position (λ s. nat_lt s.last s.first || nat_lt 7 s.last) segments.now }
+    ensures value { result ≡ position bad_segment segments.now }
     ensures within { IfSome result (λ k. k < length segments.now) }
 {
     segments

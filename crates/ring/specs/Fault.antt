@@ -18,24 +18,6 @@ not_supported = negsuc 1
 abbrev pub refused : ℤ
 refused = negsuc 0
 
--- a fault of a request has the status that its guest is told
-abbrev pub fault_number : RingFault → ℤ
-fault_number BadKind = errno_number Einval
-fault_number NoConnection = errno_number Enospc
-fault_number NotLive = errno_number Einval
-fault_number BadIndex = house_number BadRingIndex
-fault_number Busy = house_number BusyNumber
-fault_number BadBay = errno_number Einval
-fault_number NoJob = grant_number BadHandle
-fault_number HasJobs = house_number BusyNumber
-fault_number BadOperation = not_supported
-fault_number BadCount = refused
-fault_number BadSegment = refused
-fault_number BadSpan = refused
-fault_number Unfit = refused
-fault_number (OfGrant e) = grant_fault_number e
-fault_number (OfDevice e) = device_fault_number e
-
 -- what the guest is told of a request that met the fault
 abbrev pub status_of : RingFault → ℤ
 status_of BadKind = refused
@@ -53,6 +35,24 @@ status_of BadSpan = refused
 status_of Unfit = refused
 status_of (OfGrant e) = refused
 status_of (OfDevice e) = refused
+
+-- the number of the fault: one of a request has the status that its guest is told
+abbrev pub fault_number : RingFault → ℤ
+fault_number BadKind = errno_number Einval
+fault_number NoConnection = errno_number Enospc
+fault_number NotLive = errno_number Einval
+fault_number BadIndex = house_number BadRingIndex
+fault_number Busy = house_number BusyNumber
+fault_number BadBay = errno_number Einval
+fault_number NoJob = grant_number BadHandle
+fault_number HasJobs = house_number BusyNumber
+fault_number BadOperation = status_of BadOperation
+fault_number BadCount = status_of BadCount
+fault_number BadSegment = status_of BadSegment
+fault_number BadSpan = status_of BadSpan
+fault_number Unfit = status_of Unfit
+fault_number (OfGrant e) = grant_fault_number e
+fault_number (OfDevice e) = device_fault_number e
 
 -- the layer in which the fault was met
 abbrev pub layer_of : RingFault → Layer
