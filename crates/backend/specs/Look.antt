@@ -11,7 +11,9 @@ use Rattle.ring.specs.declared.fault.RingFault.TheVariants.{Busy}
 use Rattle.layout.specs.Layout.{le}
 use Rattle.connection.specs.Tables.{with_connection, with_req_cons}
 use Rattle.connection.specs.declared.tables.Connection.{Connection}
+use Rattle.connection.specs.declared.tables.Job.{Job}
 use Rattle.connection.specs.declared.tables.Rings.{Rings}
+use Rattle.backend.specs.declared.consumed.Consumed.{Consumed}
 
 -- the next index, round the circle of 2 ^ 32
 abbrev pub next_index : ℕ → ℕ
@@ -38,3 +40,7 @@ consumed k = with_req_cons (next_index k.req_cons) k
 
 abbrev pub consumed_on : ℕ → Connection → Rings → Rings
 consumed_on c k C = with_connection c (Some (consumed k)) C
+
+-- the job as that of the request that was taken off
+abbrev pub own_job : Consumed → Job → Job
+own_job t j = record j { connection = t.connection; id = t.id; operation = t.operation }

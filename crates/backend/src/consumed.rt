@@ -2,7 +2,7 @@
 ghost use Rattle.std.specs.Prelude.{◌≡◌};
 ghost use Rattle.request.specs.Content.{id_of, operation_of};
 ghost use Rattle.connection.specs.Tables.{with_job};
-ghost use Rattle.backend.specs.Look.{consumed_on};
+ghost use Rattle.backend.specs.Look.{consumed_on, own_job};
 ghost use Rattle.backend.specs.Respond.{Responded};
 
 use crate::response::respond;
@@ -68,16 +68,23 @@ impl Consumed {
         );
     }
 
-    /// Spends the request by a job, which is in hand under this ticket and will be answered when it is done.
+    /// Spends the request by a job, which is in hand under this ticket and will be answered when it is done. Whose job
+    /// it is, the request says: its connection, id and operation take the place of the job's.
     pub fn hand_over(self, rings: &mut Rings, ticket: u8, job: &Job)
-        ensures { rings.new ≡ with_job ticket (Some job.now) rings.old }
+        ensures { rings.new ≡ with_job ticket (Some (own_job self job.now)) rings.old }
     {
         let Consumed {
-            connection: _,
-            id: _,
-            operation: _,
+            connection,
+            id,
+            operation,
             sealed: (),
         } = self;
-        rings.add_job(ticket, job);
+        let own = Job {
+            connection,
+            id,
+            operation,
+            ..*job
+        };
+        rings.add_job(ticket, &own);
     }
 }

@@ -1,1 +1,2 @@
+pub mod Handing
 pub mod Leaving

@@ -2,7 +2,7 @@
 ghost use Rattle.std.specs.Prelude.{◌≡◌, ◌||◌, if◌then◌else◌};
 ghost use Rattle.device.specs.Meaning.{is_full};
 ghost use Rattle.request.specs.Checked.{asked_by};
-ghost use Rattle.request.specs.Content.{id_of, operation_of};
+ghost use Rattle.request.specs.Content.{id_of, operation_of, asked};
 ghost use Rattle.ring.specs.Fault.{status_of};
 ghost use Rattle.connection.specs.Tables.{connection_at, next_ticket, has_two_jobs};
 ghost use Rattle.backend.specs.Look.{consumed};
@@ -58,6 +58,7 @@ impl<'a> Taken<'a> {
     ) -> Answer
         requires live { connection_at tables.old.rings self.token.connection ≡ Some (consumed self.connection.now) }
         requires ticket { self.ticket ≡ next_ticket tables.old.rings.jobs self.token.connection }
+        requires asked { asked_by checked.now ≡ asked self.request.now }
         ensures { Leaves (segments_mapped D.rules self.entry.token.connection (consumed self.entry.connection.now) self.entry.request.now (asked_by checked.now) tables.old memory.old (D.meaning device.old)) (Ok result) tables.new memory.new (D.meaning device.new) }
     {
         let Taken {

@@ -1,11 +1,12 @@
 // A whole run.
-ghost use Rattle.std.specs.Prelude.{◌≡◌, [], map, IfOk};
+ghost use Rattle.std.specs.Prelude.{◌≡◌, [], map, IfOk, OnErr};
 ghost use Rattle.event.specs.Pending.{pick};
 ghost use Rattle.law.specs.Run.{Ran};
 ghost use Rattle.law.specs.Step.{started};
 ghost use Rattle.host.specs.Calls.{call_of};
 ghost use Rattle.table_calls.specs.Parts.{allowed};
 ghost use Rattle.host.specs.View.{fresh, seen};
+ghost use Rattle.host.specs.Whole.{after_calls};
 
 use crate::call::Call;
 use crate::state::Host;
@@ -14,7 +15,7 @@ use device::Device;
 use frame::FRAME_SIZE;
 
 /// Starts a host and makes the calls of it, one after the other; a refused call changes nothing, and the next one is
-/// made.
+/// made. Where the start is refused, no call is made and nothing changes.
 pub fn run<B: Device, N: Device>(
     frames: u32,
     memory: &mut [u8],
@@ -23,6 +24,13 @@ pub fn run<B: Device, N: Device>(
     calls: &[Call],
 ) -> Result<Host, HostFault>
     ensures started { allowed result ≡ allowed (started frames memory.old) }
+    ensures refused { OnErr result ((memory.new ≡ memory.old)
+        × (B.Device.meaning block.new ≡ B.Device.meaning block.old)
+        × (N.Device.meaning net.new ≡ N.Device.meaning net.old)) }
+    ensures steps { IfOk result (λ h.
+        seen h memory.new (B.Device.meaning block.new) (N.Device.meaning net.new)
+        ≡ after_calls B.Device.rules N.Device.rules pick
+        (fresh frames memory.old (B.Device.meaning block.old) (N.Device.meaning net.old)) (map call_of calls.now)) }
     ensures lawful { IfOk result (λ h.
         B.Device.rules.orders (B.Device.meaning block.old) ≡ []
         → N.Device.rules.orders (N.Device.meaning net.old) ≡ []

@@ -1,13 +1,15 @@
-use Rattle.std.proofs.Common.{◌≡◌, Some, Ok, Err, Option, sym, ap, ◌∙◌, ap₂}
+use Rattle.std.proofs.Common.{rules, ◌≡◌, ℕ, Some, Ok, Err, Option, sym, ap, ◌∙◌, ap₂}
 use Rattle.rules.specs.Refusal.{if_some}
 use Rattle.request.specs.Checked.{asked_by}
-use Rattle.request.specs.Content.{listed}
+use Rattle.request.specs.Content.{Asked, listed}
 use Rattle.request.specs.declared.fields.Miss.{Miss}
+use Rattle.connection.specs.Tables.{with_job}
 use Rattle.connection.specs.declared.tables.Job.{Job}
-use Rattle.backend.specs.Look.{consumed}
+use Rattle.backend.specs.Look.{consumed, own_job}
 use Rattle.backend.specs.Segments.{MappingDone, pin_all, emptied, job_for}
 use Rattle.law.specs.World.{with_grants}
 use Rattle.law.specs.Serve.{handed_over, answered_now}
+use Rattle.driver.proofs.Handing.{still_own}
 use Rattle.driver.proofs.Leaving.{fault_some, leaves_by, answered-leaves}
 use Rattle.driver.proofs.serving.Taken.hand_over.Goals as goal
 
@@ -30,3 +32,20 @@ returns-in-Err g c =
     leaves_by _ _ _ _ _ _
     (ap₂ (λ (o : Option Miss) G. if_some o (handed_over D n k q a (done fresh) H m x) (λ f. answered_now D n k q f (with_grants G H) m x)) fault (sym grants))
     (answered-leaves D n k q c.in-Err.miss _ _ _ m x _ _ _ c.requires.live c.args.self.id c.args.self.operation c.answer_now.ensures.answer c.answer_now.ensures.after)
+
+pub returns-in-Ok : goal.returns-in-Ok
+returns-in-Ok g c =
+    let F = c.args.tables.now.frames in
+    let G = c.args.tables.now.grants in
+    let C = c.args.tables.now.rings in
+    let t = c.args.self.token in
+    let k = consumed c.args.self.connection.now in
+    let a = asked_by c.args.checked.now in
+    let spans = listed c.args.checked.now.parts in
+    let start = job_for t.connection k.kind a in
+    let own = ap₂ (λ (i o : ℕ). record start { id = i; operation = o })
+    (c.args.self.id ∙ sym (ap (λ (b : Asked). b.id) c.requires.asked)) (c.args.self.operation ∙ sym (ap (λ (b : Asked). b.operation) c.requires.asked)) in
+    let pinned = c.pin_segments.ensures.job ∙ ap (λ j. (pin_all F k.guest 0 (emptied j) G spans).job) c.job_for-job.ensures in
+    let rings : c.hand_over.new.rings ≡ with_job c.args.self.ticket (Some c.pin_segments.new.job) C
+    = c.hand_over.ensures ∙ ap (λ j. with_job c.args.self.ticket (Some j) C) (ap (own_job t) pinned ∙ still_own t F k.guest 0 start G spans own ∙ sym pinned) in
+    search rules
