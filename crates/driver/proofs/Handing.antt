@@ -9,7 +9,7 @@ use Rattle.connection.specs.declared.tables.Job.{Job}
 use Rattle.backend.specs.Look.{own_job}
 use Rattle.backend.specs.Segments.{mode_for, part_in, with_segment, MappingDone, pin_all}
 use Rattle.backend.specs.declared.consumed.Consumed.{Consumed}
-use Rattle.law.proofs.Segments.{by_either}
+use Rattle.law.proofs.Cases.{by_either}
 
 -- mapping its segments leaves whose job it is
 pub still_own : (t : Consumed) (F : Frames) (guest i : ℕ) (j : Job) (G : Grants) (ss : List Span)

@@ -1,28 +1,39 @@
 -- What a back end leaves, by the way that it went.
-use Rattle.std.proofs.Common.{◌≡◌, ℕ, Bool, true, false, cond, ◌||◌, eqb, List, [], ◌∷◌, is_none, Some, None, Ok, Err, Option, Result, sym, refl, ap, ◌∙◌, subst, ap₂, arith}
-use Rattle.rules.specs.Refusal.{refuse_first, and_then, if_some, granting, either_of}
-use Rattle.device.specs.Meaning.{Rules, is_full}
+use Rattle.std.proofs.Common.{◌≡◌, ℕ, ◌<◌, Bool, true, false, cond, ◌||◌, eqb, List, [], ◌∷◌, length, is_none, get_or, Some, None, Ok, Err, Option, Result, sym, refl, ap, ◌∙◌, subst, ap₂, inl, inr, arith}
+use Rattle.std.proofs.lemmas.List.{get_or_past}
+use Rattle.std.proofs.lemmas.Bool.{cases_lt}
+use Rattle.rules.specs.Refusal.{refuse_first, and_then, if_some, granting, after_ok, either_of}
+use Rattle.device.specs.Meaning.{Rules, is_full, accepting, Accepted}
+use Rattle.device.specs.declared.orders.Order.{Order}
+use Rattle.device.specs.declared.fault.DeviceFault.{DeviceFault}
 use Rattle.ring.specs.Fault.{status_of}
 use Rattle.ring.specs.declared.fault.RingFault.{RingFault}
-use Rattle.ring.specs.declared.fault.RingFault.TheVariants.{Busy}
+use Rattle.ring.specs.declared.fault.RingFault.TheVariants.{Busy, OfDevice}
 use Rattle.ringpage.specs.declared.slot.Request.{Request}
-use Rattle.request.specs.Content.{id_of, operation_of}
+use Rattle.request.specs.Check.{miss}
+use Rattle.request.specs.Content.{Asked, id_of, operation_of}
 use Rattle.request.specs.declared.fields.Miss.{Miss}
-use Rattle.connection.specs.Tables.{connection_at, has_two_jobs}
+use Rattle.connection.specs.Tables.{connection_at, next_ticket, has_two_jobs, with_job, handles_of}
 use Rattle.connection.specs.declared.tables.Connection.{Connection}
 use Rattle.backend.specs.Look.{look, next_request, event_asked, consumed, consumed_on}
 use Rattle.backend.specs.Respond.{responded_memory}
+use Rattle.backend.specs.Segments.{MappingDone, released_all, order_for}
 use Rattle.backend.specs.declared.tables.Tables.{Tables}
 use Rattle.answer.specs.declared.reply.Answer.{Answer}
-use Rattle.answer.specs.declared.reply.Answer.TheVariants.{AnsweredNow, Idle}
-use Rattle.law.specs.World.{with_rings}
-use Rattle.law.specs.Serve.{Outcome, responded, answered_now, spent, served_on}
+use Rattle.answer.specs.declared.reply.Answer.TheVariants.{AnsweredNow, HandedOver, Idle}
+use Rattle.law.specs.World.{with_grants, with_rings}
+use Rattle.law.specs.Serve.{Outcome, responded, answered_now, handed_over, spent, served_on}
 use Rattle.driver.specs.Outcomes.{Leaves, Answered}
 
 -- a refused mapping has its fault
 pub fault_some : (o : Option Miss) (f : Miss) → ◌≡◌ {A = Result Unit Miss} (Err f) (if_some o (Ok tt) (λ g. Err g)) → o ≡ Some f
 fault_some None f e = cc
 fault_some (Some g) f e = cc
+
+-- and where none was refused there is no fault
+pub fault_none : (o : Option Miss) → ◌≡◌ {A = Result Unit Miss} (Ok tt) (if_some o (Ok tt) (λ g. Err g)) → o ≡ None
+fault_none None e = refl
+fault_none (Some g) e = absurd (let z : ◌≡◌ {A = ℕ} 0 1 = cc in omega arith)
 
 -- a ticket that is free is the next one, and its back end is not busy
 pub ticket_free : (busy : Bool) (n t : ℕ) → cond busy None (Some n) ≡ Some t → (busy ≡ false) × (t ≡ n)
@@ -80,6 +91,44 @@ module _ {X : Type 0} where
         memory = after.memory ∙ ap (λ (o : Option Connection). if_some o m (λ n. responded_memory n id operation s m)) live ∙ bytes;
         device = refl;
       }
+
+  -- the device took the order of a request whose segments are mapped, or refused it
+  module _ (D : Rules X) (c : ℕ) (k : Connection) (q : Request) (a : Asked) (p : MappingDone) (H : Tables) (m : List ℕ) (x : X) where
+    abbrev order : Order
+    order = order_for (next_ticket H.rings.jobs c) a
+
+    abbrev by_answer : Result Unit DeviceFault → Outcome X
+    by_answer v =
+        either_of v
+        (λ _. record { answer = Ok HandedOver; host = with_rings (with_job (next_ticket H.rings.jobs c) (Some p.job) H.rings) (with_grants p.grants H); memory = m; device = D.with_order x order })
+        (λ e. answered_now D c k q (miss (OfDevice e) 0) (with_grants (released_all (handles_of p.job) p.grants) H) m x)
+
+    pub order-taken : (o : Order) (r : Result Unit DeviceFault) (H' : Tables) (x' : X) → o ≡ order
+        → Accepted D x o r x' → r ≡ Ok tt → H' ≡ with_rings (with_job (next_ticket H.rings.jobs c) (Some p.job) H.rings) (with_grants p.grants H)
+        → Leaves (handed_over D c k q a p H m x) (Ok HandedOver) H' m x'
+    order-taken o r H' x' same accepted taken tables =
+        let by : accepting D x o ≡ Ok tt = sym accepted.answer ∙ taken in
+        leaves_by _ _ _ _ _ _ (ap by_answer (ap (accepting D x) (sym same) ∙ by))
+        (record {
+          answer = refl;
+          tables = tables;
+          memory = refl;
+          device = accepted.after ∙ ap (λ v. after_ok v x (λ _. D.with_order x o)) by ∙ ap (D.with_order x) same;
+        })
+
+    pub order-refused : (o : Order) (r : Result Unit DeviceFault) (e : DeviceFault) (s : Result Answer RingFault) (H' : Tables) (m' : List ℕ) (x' : X) → o ≡ order
+        → Accepted D x o r x' → r ≡ Err e
+        → Leaves (answered_now D c k q (miss (OfDevice e) 0) (with_grants (released_all (handles_of p.job) p.grants) H) m x) s H' m' x
+        → Leaves (handed_over D c k q a p H m x) s H' m' x'
+    order-refused o r e s H' m' x' same accepted refused left =
+        let by : accepting D x o ≡ Err e = sym accepted.answer ∙ refused in
+        leaves_by _ _ _ _ _ _ (ap by_answer (ap (accepting D x) (sym same) ∙ by))
+        (record {
+          answer = left.answer;
+          tables = left.tables;
+          memory = left.memory;
+          device = accepted.after ∙ ap (λ v. after_ok v x (λ _. D.with_order x o)) by;
+        })
 
   -- a live connection, by what is seen of it
   pub looked_at : (D : Rules X) (c : ℕ) (k : Connection) (H : Tables) (m : List ℕ) (x : X) (r : Result Bool RingFault)

@@ -1,8 +1,11 @@
 -- What a back end answers and leaves.
-use Rattle.std.specs.Prelude.{◌≡◌, ℕ, List, ℤ, Result}
+use Rattle.std.specs.Prelude.{◌≡◌, ℕ, List, ℤ, None, Result}
 use Rattle.rules.specs.Refusal.{if_some}
 use Rattle.ring.specs.declared.fault.RingFault.{RingFault}
+use Rattle.grant.specs.declared.tables.Grants.{Grants}
 use Rattle.connection.specs.Tables.{connection_at}
+use Rattle.connection.specs.declared.tables.Job.{Job}
+use Rattle.backend.specs.Segments.{MappingDone}
 use Rattle.backend.specs.Respond.{responded_memory}
 use Rattle.backend.specs.declared.tables.Tables.{Tables}
 use Rattle.answer.specs.declared.reply.Answer.{Answer}
@@ -14,6 +17,10 @@ pub record Leaves {X : Type 0} (o : Outcome X) (r : Result Answer RingFault) (H 
   pub tables : H ≡ o.host
   pub memory : m ≡ o.memory
   pub device : x ≡ o.device
+
+-- every segment of the job j is mapped, and the tables of grants are G
+abbrev pub all_mapped : Job → Grants → MappingDone
+all_mapped j G = record { grants = G; job = j; fault = None }
 
 -- a request of the connection c, if that is live, is answered: the memory, and the tables
 abbrev pub memory_answered : ℕ → ℕ → ℕ → ℤ → Tables → List ℕ → List ℕ

@@ -1,12 +1,24 @@
 // complete: the bytes of the first ready job are moved, and its request is answered.
+ghost use Rattle.std.specs.Prelude.{◌≡◌};
 ghost use Rattle.law.specs.Complete.{completed};
 ghost use Rattle.driver.specs.Outcomes.{Leaves};
 
 use answer::Answer;
 use backend::{Tables, move_bytes, respond, unpin_segments};
-use connection::Bay;
+use connection::{Bay, Job};
 use device::Device;
 use ring::{Reply, RingFault};
+
+// The response to the request of a job.
+fn reply_to(job: &Job, status: i16) -> Reply
+    ensures { result ≡ record { id = job.now.id; operation = job.now.operation; status = status } }
+{
+    Reply {
+        id: job.id,
+        operation: job.operation,
+        status,
+    }
+}
 
 /// Completes the first ready job of a bay's device: its bytes are moved, and its request is answered.
 #[tactic(auto, unfolding(law::specs::Complete::completed))]
@@ -26,11 +38,7 @@ pub fn complete<D: Device>(
     let status = device.done(ticket)?;
     unpin_segments(&mut tables.grants, job);
     let number = job.connection;
-    let reply = Reply {
-        id: job.id,
-        operation: job.operation,
-        status,
-    };
+    let reply = reply_to(job, status);
     tables.rings.end_job(ticket);
     respond(&mut tables.rings, &mut tables.events, memory, number, reply);
     Ok(Answer::Completed)

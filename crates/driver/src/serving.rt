@@ -5,17 +5,17 @@ ghost use Rattle.request.specs.Checked.{asked_by};
 ghost use Rattle.request.specs.Content.{id_of, operation_of, asked};
 ghost use Rattle.ring.specs.Fault.{status_of};
 ghost use Rattle.connection.specs.Tables.{connection_at, next_ticket, has_two_jobs};
-ghost use Rattle.backend.specs.Look.{consumed};
+ghost use Rattle.backend.specs.Look.{consumed, own_job};
 ghost use Rattle.answer.specs.declared.reply.Answer.TheVariants.{AnsweredNow};
-ghost use Rattle.law.specs.Serve.{served, served_on, spent, segments_mapped};
-ghost use Rattle.driver.specs.Outcomes.{Leaves, Answered};
+ghost use Rattle.law.specs.Serve.{served, served_on, spent, segments_mapped, handed_over};
+ghost use Rattle.driver.specs.Outcomes.{Leaves, Answered, all_mapped};
 
 use answer::Answer;
 use backend::{
     Consumed, Tables, ask_event, consume, job_for, look, next_request, order_for, pin_segments,
     unpin_segments,
 };
-use connection::{Connection, ConnectionNumber, Rings};
+use connection::{Connection, ConnectionNumber, Job, Rings};
 use device::Device;
 use request::{Checked, Miss, check};
 use ring::RingFault;
@@ -47,9 +47,43 @@ struct Taken<'a> {
 }
 
 impl<'a> Taken<'a> {
-    // The request passed its checks: its segments are mapped and the device takes it, or it is answered at once with
-    // nothing left mapped.
+    // The segments are mapped, those of the job: the device takes the order, or they are unmapped again and the
+    // request is answered at once.
     fn hand_over<D: Device>(
+        self,
+        tables: &mut Tables,
+        memory: &mut [u8],
+        device: &mut D,
+        checked: &Checked,
+        job: &Job,
+    ) -> Answer
+        requires live { connection_at tables.old.rings self.token.connection ≡ Some (consumed self.connection.now) }
+        requires ticket { self.ticket ≡ next_ticket tables.old.rings.jobs self.token.connection }
+        requires own { own_job self.token job.now ≡ job.now }
+        ensures { Leaves (handed_over D.rules self.entry.token.connection (consumed self.entry.connection.now) self.entry.request.now (asked_by checked.now) (all_mapped job.now tables.old.grants) tables.old memory.old (D.meaning device.old)) (Ok result) tables.new memory.new (D.meaning device.new) }
+    {
+        let order = order_for(self.ticket, checked);
+        let Taken {
+            token,
+            connection: _,
+            request: _,
+            ticket,
+        } = self;
+        match device.accept(order) {
+            Ok(()) => {
+                token.hand_over(&mut tables.rings, ticket, job);
+                Answer::HandedOver
+            }
+            Err(fault) => {
+                unpin_segments(&mut tables.grants, job);
+                answer_now(tables, memory, token, RingFault::from(fault).into())
+            }
+        }
+    }
+
+    // The request passed its checks: its segments are mapped and it is handed over, or where one is refused, with none
+    // left mapped, it is answered at once.
+    fn map_segments<D: Device>(
         self,
         tables: &mut Tables,
         memory: &mut [u8],
@@ -61,30 +95,25 @@ impl<'a> Taken<'a> {
         requires asked { asked_by checked.now ≡ asked self.request.now }
         ensures { Leaves (segments_mapped D.rules self.entry.token.connection (consumed self.entry.connection.now) self.entry.request.now (asked_by checked.now) tables.old memory.old (D.meaning device.old)) (Ok result) tables.new memory.new (D.meaning device.new) }
     {
-        let Taken {
-            token,
-            connection,
-            request: _,
-            ticket,
-        } = self;
-        let mut job = job_for(token.connection, connection.kind, checked);
-        if let Err(miss) = pin_segments(
+        let connection = self.connection;
+        let mut job = job_for(self.token.connection, connection.kind, checked);
+        let pinned = pin_segments(
             &tables.frames,
             &mut tables.grants,
             connection.guest,
             &checked.parts,
             &mut job,
-        ) {
-            return answer_now(tables, memory, token, miss);
-        }
-        match device.accept(order_for(ticket, checked)) {
-            Ok(()) => {
-                token.hand_over(&mut tables.rings, ticket, &job);
-                Answer::HandedOver
-            }
-            Err(fault) => {
-                unpin_segments(&mut tables.grants, &job);
-                answer_now(tables, memory, token, RingFault::from(fault).into())
+        );
+        match pinned {
+            Ok(()) => self.hand_over(tables, memory, device, checked, &job),
+            Err(miss) => {
+                let Taken {
+                    token,
+                    connection: _,
+                    request: _,
+                    ticket: _,
+                } = self;
+                answer_now(tables, memory, token, miss)
             }
         }
     }
@@ -96,7 +125,7 @@ impl<'a> Taken<'a> {
         ensures { Leaves (spent D.rules self.entry.token.connection (consumed self.entry.connection.now) self.entry.request.now tables.old memory.old (D.meaning device.old)) (Ok result) tables.new memory.new (D.meaning device.new) }
     {
         match check(self.request, device) {
-            Ok(checked) => self.hand_over(tables, memory, device, &checked),
+            Ok(checked) => self.map_segments(tables, memory, device, &checked),
             Err(miss) => {
                 let Taken {
                     token,

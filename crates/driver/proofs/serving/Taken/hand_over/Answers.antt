@@ -1,17 +1,23 @@
-use Rattle.std.proofs.Common.{rules, ◌≡◌, ℕ, Some, Ok, Err, Option, sym, ap, ◌∙◌, ap₂}
-use Rattle.rules.specs.Refusal.{if_some}
+use Rattle.std.proofs.Common.{sym, ap, ◌∙◌, ap₂, Some}
+use Rattle.request.specs.Check.{miss}
 use Rattle.request.specs.Checked.{asked_by}
-use Rattle.request.specs.Content.{Asked, listed}
-use Rattle.request.specs.declared.fields.Miss.{Miss}
 use Rattle.connection.specs.Tables.{with_job}
-use Rattle.connection.specs.declared.tables.Job.{Job}
-use Rattle.backend.specs.Look.{consumed, own_job}
-use Rattle.backend.specs.Segments.{MappingDone, pin_all, emptied, job_for}
-use Rattle.law.specs.World.{with_grants}
-use Rattle.law.specs.Serve.{handed_over, answered_now}
-use Rattle.driver.proofs.Handing.{still_own}
-use Rattle.driver.proofs.Leaving.{fault_some, leaves_by, answered-leaves}
+use Rattle.backend.specs.Look.{consumed}
+use Rattle.backend.specs.Segments.{order_for}
+use Rattle.law.specs.World.{with_grants, with_rings}
+use Rattle.law.specs.Serve.{answered_now}
+use Rattle.driver.specs.Outcomes.{all_mapped}
+use Rattle.driver.proofs.Leaving.{leaves_by, answered-leaves, order-taken, order-refused}
 use Rattle.driver.proofs.serving.Taken.hand_over.Goals as goal
+
+pub returns-in-Ok : goal.returns-in-Ok
+returns-in-Ok g c =
+    let H = c.args.tables.now in
+    let j = c.args.job.now in
+    let a = asked_by c.args.checked.now in
+    order-taken g.D.Device.rules c.args.self.token.connection (consumed c.args.self.connection.now) c.args.self.request.now a (all_mapped j H.grants) H c.args.memory.now (g.D.Device.meaning c.args.device.now)
+    _ _ _ _ (c.order_for-order.ensures ∙ ap (λ t. order_for t a) c.requires.ticket) c.accept.ensures c.in-Ok.is
+    (ap (λ C. with_rings C H) (c.hand_over.ensures ∙ ap₂ (λ t x. with_job t (Some x) H.rings) c.requires.ticket c.requires.own))
 
 pub returns-in-Err : goal.returns-in-Err
 returns-in-Err g c =
@@ -23,29 +29,8 @@ returns-in-Err g c =
     let k = consumed c.args.self.connection.now in
     let q = c.args.self.request.now in
     let a = asked_by c.args.checked.now in
-    let done : Job → MappingDone = λ j. pin_all H.frames k.guest 0 (emptied j) H.grants (listed c.args.checked.now.parts) in
-    let job = c.job_for-job.ensures in
-    let fresh = job_for n k.kind a in
-    let fault : (done fresh).fault ≡ Some c.in-Err.miss =
-    fault_some (done fresh).fault c.in-Err.miss (sym c.in-Err.is ∙ c.pin_segments.ensures.answer ∙ ap (λ j. if_some (done j).fault (Ok tt) (λ f. Err f)) job) in
-    let grants = c.pin_segments.ensures.grants ∙ ap (λ j. (done j).grants) job in
-    leaves_by _ _ _ _ _ _
-    (ap₂ (λ (o : Option Miss) G. if_some o (handed_over D n k q a (done fresh) H m x) (λ f. answered_now D n k q f (with_grants G H) m x)) fault (sym grants))
-    (answered-leaves D n k q c.in-Err.miss _ _ _ m x _ _ _ c.requires.live c.args.self.id c.args.self.operation c.answer_now.ensures.answer c.answer_now.ensures.after)
-
-pub returns-in-Ok : goal.returns-in-Ok
-returns-in-Ok g c =
-    let F = c.args.tables.now.frames in
-    let G = c.args.tables.now.grants in
-    let C = c.args.tables.now.rings in
-    let t = c.args.self.token in
-    let k = consumed c.args.self.connection.now in
-    let a = asked_by c.args.checked.now in
-    let spans = listed c.args.checked.now.parts in
-    let start = job_for t.connection k.kind a in
-    let own = ap₂ (λ (i o : ℕ). record start { id = i; operation = o })
-    (c.args.self.id ∙ sym (ap (λ (b : Asked). b.id) c.requires.asked)) (c.args.self.operation ∙ sym (ap (λ (b : Asked). b.operation) c.requires.asked)) in
-    let pinned = c.pin_segments.ensures.job ∙ ap (λ j. (pin_all F k.guest 0 (emptied j) G spans).job) c.job_for-job.ensures in
-    let rings : c.hand_over.new.rings ≡ with_job c.args.self.ticket (Some c.pin_segments.new.job) C
-    = c.hand_over.ensures ∙ ap (λ j. with_job c.args.self.ticket (Some j) C) (ap (own_job t) pinned ∙ still_own t F k.guest 0 start G spans own ∙ sym pinned) in
-    search rules
+    order-refused D n k q a (all_mapped c.args.job.now H.grants) H m x
+    _ _ c.in-Err.fault _ _ _ _ (c.order_for-order.ensures ∙ ap (λ t. order_for t a) c.requires.ticket) c.accept.ensures c.in-Err.is
+    (leaves_by _ _ _ _ _ _
+    (ap₂ (λ f G. answered_now D n k q f (with_grants G H) m x) (sym (c.into.ensures ∙ ap (λ f. miss f 0) c.from.ensures)) (sym c.unpin_segments.ensures))
+    (answered-leaves D n k q c.into.result _ _ _ m x _ _ _ c.requires.live c.args.self.id c.args.self.operation c.answer_now.ensures.answer c.answer_now.ensures.after))
