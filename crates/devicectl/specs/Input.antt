@@ -6,5 +6,5 @@ use Rattle.devicectl.specs.declared.failure.Failure.{Failure}
 use Rattle.devicectl.specs.declared.lines.Line.{Line}
 
 -- what comes next was read of the script, so that the lines end
-abbrev pub ReadsOn : {A : Type 0} → Script Line → Result (Option A) Failure → Script Line → Type 0
+abbrev pub ReadsOn : {A R : Type 0} → Script Line R → Result (Option A) Failure → Script Line R → Type 0
 ReadsOn before result after = IfOk result (λ next. OnSome next (lines_ahead after < lines_ahead before))

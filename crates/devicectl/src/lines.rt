@@ -1,4 +1,6 @@
 // The lines of the script: words, numbers and bytes.
+ghost use Rattle.std.specs.Prelude.{⊤};
+
 use crate::act::Command;
 use crate::failure::Failure;
 use console::FromLine;
@@ -73,6 +75,9 @@ pub(crate) fn words(heap: Global, text: &str) -> Result<Vec<&str>, AllocError> {
 
 impl FromLine for Line {
     type Err = Failure;
+
+    // What a line is read as is tested alone.
+    ghost reads = { λ _ _. ⊤ };
 
     fn from_line(heap: Global, line: &str) -> Result<Option<Line>, Failure> {
         let words = words(heap, line)?;

@@ -1,4 +1,6 @@
 // What a line of the script asks for, and what is printed of it.
+ghost use Rattle.scanhost.specs.Input.{ReadsLine};
+
 use crate::failure::Failure;
 use answer::AnswerParts;
 use console::FromLine;
@@ -13,6 +15,8 @@ pub(crate) type Script = console::Script<Asked>;
 
 impl FromLine for Asked {
     type Err = Failure;
+
+    ghost reads = { ReadsLine };
 
     fn from_line(heap: Global, line: &str) -> Result<Option<Asked>, Failure> {
         let words = script::words(heap, line)?;

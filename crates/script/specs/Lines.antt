@@ -1,8 +1,9 @@
 -- What a command says, and what a line of words may be read as.
-use Rattle.std.specs.Prelude.{◌≡◌, ℕ, ◌-◌, ◌<◌, true, false, List, [], ◌∷◌, ◌++◌, length, map, take, Some, None, Ok, Err, Option, Result, MatchResult, ◌≢◌}
+use Rattle.std.specs.Prelude.{◌≡◌, ℕ, ◌-◌, ◌<◌, true, false, List, [], ◌∷◌, ◌++◌, length, map, take, drop, Some, None, Ok, Err, Option, Result, MatchResult, ◌≢◌, vec_items}
 use Rattle.std.specs.Borrow.{Bor}
 use Rattle.std.specs.Char.{is_whitespace, is_not_whitespace}
 use Rattle.std.specs.Str.{NoCharPasses, EmptyOrStartsWithPassing}
+use Rattle.script.specs.Hex.{hex_on}
 use Rattle.script.specs.Numbers.{read_on}
 use Rattle.script.specs.Verbs.{verb_name, takes}
 use Rattle.script.specs.declared.verb.Verb.{Verb}
@@ -72,27 +73,74 @@ numbers_of (Start n) = n ∷ []
 numbers_of (Call c) = numbers_of_call c
 numbers_of (StoreRead c f o bs) = c ∷ f ∷ o ∷ []
 
--- why a line with this first word and so many words after it is refused
-abbrev pub Refuses : List ℕ → ℕ → LineError → Type 0
-Refuses name n NoSuchCall = (v : Verb) → name ≢ verb_name v
-Refuses name n (WrongWords v) = (name ≡ verb_name v) × (takes v n ≡ false)
-Refuses name n NotNumber = Unit {0}
-Refuses name n NotHalf = Unit {0}
-Refuses name n NotHex = Unit {0}
-Refuses name n NoMemory = Unit {0}
+-- the bytes of a call that stores any
+abbrev pub bytes_of_call : HostCall → List ℕ
+bytes_of_call (Take c f) = []
+bytes_of_call (Give c f) = []
+bytes_of_call (Load c f o n) = []
+bytes_of_call (Store c f o bs) = bs.now
+bytes_of_call (Entry c r b d f) = []
+bytes_of_call (End c r) = []
+bytes_of_call (Map c o r m) = []
+bytes_of_call (Unmap c h) = []
+bytes_of_call (Send c p) = []
+bytes_of_call (Next c) = []
+bytes_of_call (Connect c k r) = []
+bytes_of_call (Serve n) = []
+bytes_of_call (Complete b) = []
+bytes_of_call (Disconnect n) = []
+
+-- the bytes that it stores
+abbrev pub bytes_of : Command → List ℕ
+bytes_of (Disk n) = []
+bytes_of (Start n) = []
+bytes_of (Call c) = bytes_of_call c
+bytes_of (StoreRead c f o bs) = vec_items bs
+
+-- the bytes that the words behind the numbers write: none where there is no word, and those of one word's digits
+abbrev pub bytes_in : List (Bor (List ℕ)) → Option (List ℕ)
+bytes_in [] = Some []
+bytes_in (w ∷ []) = hex_on [] w.now
+bytes_in (w ∷ v ∷ ws) = None
+
+-- the numbers of a command, and the bytes behind them, are those of the words
+abbrev pub NumbersIn : List (Bor (List ℕ)) → Command → Type 0
+NumbersIn ws c = numbers_of c ≡ map (λ w. read_on 0 w.now) (take (length (numbers_of c)) ws)
+
+abbrev pub BytesIn : List (Bor (List ℕ)) → Command → Type 0
+BytesIn ws c = bytes_in (drop (length (numbers_of c)) ws) ≡ Some (bytes_of c)
+
+-- what is wrong with the words behind a verb
+abbrev pub WrongBehind : Verb → List (Bor (List ℕ)) → LineError → Type 0
+WrongBehind verb ws NoSuchCall = ⊥
+WrongBehind verb ws (WrongWords v) = (v ≡ verb) × (takes verb (length ws) ≡ false)
+WrongBehind verb ws NotNumber = Unit {0}
+WrongBehind verb ws NotHalf = Unit {0}
+WrongBehind verb ws NotHex = bytes_in (drop 3 ws) ≡ None
+WrongBehind verb ws NoMemory = Unit {0}
+
+-- why a line of words is refused
+abbrev pub Refused : List (Bor (List ℕ)) → LineError → Type 0
+Refused [] e = ⊥
+Refused (name ∷ ws) NoSuchCall = (v : Verb) → name.now ≢ verb_name v
+Refused (name ∷ ws) (WrongWords v) = (name.now ≡ verb_name v) × (takes v (length ws) ≡ false)
+Refused (name ∷ ws) NotNumber = Unit {0}
+Refused (name ∷ ws) NotHalf = Unit {0}
+Refused (name ∷ ws) NotHex = bytes_in (drop 3 ws) ≡ None
+Refused (name ∷ ws) NoMemory = Unit {0}
 
 -- the verb of that name, or no verb has it
 abbrev pub IsVerb : List ℕ → Result Verb LineError → Type 0
 IsVerb name r = MatchResult r (λ v. name ≡ verb_name v) (λ e. (e ≡ NoSuchCall) × ((v : Verb) → name ≢ verb_name v))
 
--- a command of that name, which so many words may follow
-abbrev pub Read : List ℕ → ℕ → Result Command LineError → Type 0
-Read name n r = MatchResult r (λ c. (name ≡ verb_name (verb_of c)) × (takes (verb_of c) n ≡ true)) (Refuses name n)
+-- the command of a verb and the words behind it, or what is wrong with these
+abbrev pub ReadAs : Verb → List (Bor (List ℕ)) → Result Command LineError → Type 0
+ReadAs verb ws r = MatchResult r (λ c. (verb_of c ≡ verb) × (takes verb (length ws) ≡ true) × NumbersIn ws c × BytesIn ws c) (WrongBehind verb ws)
 
--- the command that words write: its name, and then its numbers in the order of the line
+-- the command that words write: its name, then its numbers in the order of the line, and then the bytes of a store
 abbrev pub Writes : List (Bor (List ℕ)) → Command → Type 0
 Writes [] c = ⊥
-Writes (name ∷ ws) c = (name.now ≡ verb_name (verb_of c)) × (numbers_of c ≡ map (λ w. read_on 0 w.now) (take (length (numbers_of c)) ws))
+Writes (name ∷ ws) c = (name.now ≡ verb_name (verb_of c)) × NumbersIn ws c × BytesIn ws c
 
 -- just a line with no words asks for nothing
 abbrev pub Asks : ℕ → Result (Option Command) LineError → Type 0

@@ -2,6 +2,7 @@
 #![tactic(auto)]
 
 mod answers;
+mod by_count;
 mod command;
 mod error;
 mod lines;
