@@ -1,5 +1,5 @@
 -- What every device keeps to, whatever it is.
-use Rattle.std.specs.Prelude.{◌≡◌, ℕ, ◌+◌, ◌<◌, List, [], ◌∷◌, ◌++◌, map, length, Ok}
+use Rattle.std.specs.Prelude.{◌≡◌, ℕ, ◌+◌, ◌<◌, List, [], ◌∷◌, ◌++◌, map, length, Ok, ◌≢◌}
 use Rattle.device.specs.Meaning.{Rules, others, accepting, serving, finishing}
 use Rattle.device.specs.declared.orders.Direction.{Direction}
 use Rattle.device.specs.declared.orders.Direction.TheVariants.{Outward}
@@ -11,10 +11,10 @@ module _ {M : Type 0} (R : Rules M) where
     pub capacity_some : (m : M) → 0 < R.capacity m
     -- it gives as many bytes as it is asked for
     pub bytes_length : (m : M) (o : Order) (k n : ℕ) → length (R.bytes m o k n) ≡ n
-    -- an accepted order goes to the end, and the rest is as before
+    -- an accepted order goes to the end, and the rest is as before: also the bytes that it would give for orders to come
     pub accept_orders : (m : M) (o : Order) → accepting R m o ≡ Ok tt → R.orders (R.with_order m o) ≡ R.orders m ++ o ∷ []
     pub accept_ready : (m : M) (o : Order) → accepting R m o ≡ Ok tt → map (R.is_ready (R.with_order m o)) (R.orders m) ≡ map (R.is_ready m) (R.orders m)
-    pub accept_bytes : (m : M) (o : Order) → accepting R m o ≡ Ok tt → (k n : ℕ) → map (λ p. R.bytes (R.with_order m o) p k n) (R.orders m) ≡ map (λ p. R.bytes m p k n) (R.orders m)
+    pub accept_bytes : (m : M) (o : Order) → accepting R m o ≡ Ok tt → (p : Order) → p.ticket ≢ o.ticket → (k n : ℕ) → R.bytes (R.with_order m o) p k n ≡ R.bytes m p k n
     pub accept_status : (m : M) (o : Order) → accepting R m o ≡ Ok tt → map (R.status (R.with_order m o)) (R.orders m) ≡ map (R.status m) (R.orders m)
     pub accept_contents : (m : M) (o : Order) → accepting R m o ≡ Ok tt → R.contents (R.with_order m o) ≡ R.contents m
     pub accept_capacity : (m : M) (o : Order) → accepting R m o ≡ Ok tt → R.capacity (R.with_order m o) ≡ R.capacity m
