@@ -10,11 +10,13 @@ use hex::FromHexError;
 use std::alloc::{AllocError, Global};
 use std::str::FromStr;
 
-/// The most bytes that one line fills, as many as the largest disk has.
+/// The most bytes that an order has: as many as the largest disk.
 const MOST_FILLED: u32 = (MOST_SECTORS * SECTOR) as u32;
 
-// What is expected of a ticket, of a length or an offset, and of a place.
+// What is expected of a ticket, of a disk's size, of a length or an offset, and of a place.
 const TICKET: &str = "a ticket is a number from 0 to 255";
+
+const SECTORS: &str = "a number of sectors has 32 bits";
 
 const SIZE: &str = "a length or an offset is a number of 32 bits";
 
@@ -59,11 +61,9 @@ fn bytes(heap: Global, word: &str) -> Result<Vec<u8>, Failure> {
     })
 }
 
-fn zeros(heap: Global, size: u32) -> Result<Vec<u8>, Failure> {
-    if size > MOST_FILLED {
-        return Err(Failure::Line("a fill takes at most 65536 bytes"));
-    }
-    Ok(vec![in heap; 0u8; size as usize]?)
+// A part to fill. One that is longer than any order is refused whatever its length, so one byte more is enough.
+fn zeros(heap: Global, size: u32) -> Result<Vec<u8>, AllocError> {
+    vec![in heap; 0u8; size.min(MOST_FILLED + 1) as usize]
 }
 
 /// The words of a line, up to a comment.
@@ -92,7 +92,7 @@ impl FromLine for Line {
 fn parse(heap: Global, words: &[&str]) -> Result<Line, Failure> {
     let none = Vec::new(heap);
     match words {
-        ["disk", sectors] => Ok(Line::Make(Start::Disk(parsed(sectors, SIZE)?))),
+        ["disk", sectors] => Ok(Line::Make(Start::Disk(parsed(sectors, SECTORS)?))),
         ["wire"] => Ok(Line::Make(Start::Wire)),
         ["fits", way, place, length] => Ok(Line::Act(
             Command::Fits(

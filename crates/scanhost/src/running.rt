@@ -43,7 +43,7 @@ fn filled<'a>(
     }
 }
 
-// Makes the call of a command, and prints its line with the answer.
+// Makes the call of a command, and prints its line with the answer. A load fills the front of the buffer.
 fn make<B: Device, N: Device>(
     script: &Script,
     host: &mut Host,
@@ -51,11 +51,11 @@ fn make<B: Device, N: Device>(
     block: &mut B,
     net: &mut N,
     command: &Command,
+    buffer: &mut [u8; FRAME_SIZE],
 ) -> Result<(), Failure> {
-    let mut buffer = [0u8; FRAME_SIZE];
     let call = call_of(command)?;
-    let answer = host.call(memory, block, net, &call, &mut buffer);
-    print_answer(script, parts_of(answer), filled(&call, answer, &buffer))
+    let answer = host.call(memory, block, net, &call, buffer);
+    print_answer(script, parts_of(answer), filled(&call, answer, buffer))
 }
 
 /// Makes the script's calls until it ends, with a disk in bay 0 and the wire in bay 1.
@@ -64,6 +64,7 @@ pub(crate) fn drive(script: &mut Script, machine: &mut Machine) -> Result<(), Fa
     let mut packets = [Packet::new(); WAITING];
     let mut disk = Disk::new(machine.disk.as_mut_slice(), &mut orders);
     let mut wire = Wire::new(&mut packets);
+    let mut buffer = [0u8; FRAME_SIZE];
     while let Some(asked) = script.next() {
         let Asked(command) = asked?;
         make(
@@ -73,6 +74,7 @@ pub(crate) fn drive(script: &mut Script, machine: &mut Machine) -> Result<(), Fa
             &mut disk,
             &mut wire,
             &command,
+            &mut buffer,
         )?;
     }
     Ok(())
