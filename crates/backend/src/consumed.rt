@@ -70,8 +70,9 @@ impl Consumed {
 
     /// Spends the request by a job, which is in hand under this ticket and will be answered when it is done. Whose job
     /// it is, the request says: its connection, id and operation take the place of the job's.
-    pub fn hand_over(self, rings: &mut Rings, ticket: u8, job: &Job)
-        ensures { rings.new ≡ with_job ticket (Some (own_job self job.now)) rings.old }
+    pub fn hand_over(self, rings: &mut Rings, ticket: u8, job: &mut Job)
+        ensures rings { rings.new ≡ with_job ticket (Some (own_job self job.old)) rings.old }
+        ensures job { job.new ≡ own_job self job.old }
     {
         let Consumed {
             connection,
@@ -79,12 +80,9 @@ impl Consumed {
             operation,
             sealed: (),
         } = self;
-        let own = Job {
-            connection,
-            id,
-            operation,
-            ..*job
-        };
-        rings.add_job(ticket, &own);
+        job.connection = connection;
+        job.id = id;
+        job.operation = operation;
+        rings.add_job(ticket, job);
     }
 }

@@ -55,12 +55,12 @@ impl<'a> Taken<'a> {
         memory: &mut [u8],
         device: &mut D,
         checked: &Checked,
-        job: &Job,
+        job: &mut Job,
     ) -> Answer
         requires live { connection_at tables.old.rings self.token.connection ≡ Some (consumed self.connection.now) }
         requires ticket { self.ticket ≡ next_ticket tables.old.rings.jobs self.token.connection }
-        requires own { own_job self.token job.now ≡ job.now }
-        ensures { Leaves (handed_over D.rules self.entry.token.connection (consumed self.entry.connection.now) self.entry.request.now (asked_by checked.now) (all_mapped job.now tables.old.grants) tables.old memory.old (D.meaning device.old)) (Ok result) tables.new memory.new (D.meaning device.new) }
+        requires own { own_job self.token job.old ≡ job.old }
+        ensures { Leaves (handed_over D.rules self.entry.token.connection (consumed self.entry.connection.now) self.entry.request.now (asked_by checked.now) (all_mapped job.old tables.old.grants) tables.old memory.old (D.meaning device.old)) (Ok result) tables.new memory.new (D.meaning device.new) }
     {
         let order = order_for(self.ticket, checked);
         let Taken {
@@ -105,7 +105,7 @@ impl<'a> Taken<'a> {
             &mut job,
         );
         match pinned {
-            Ok(()) => self.hand_over(tables, memory, device, checked, &job),
+            Ok(()) => self.hand_over(tables, memory, device, checked, &mut job),
             Err(miss) => {
                 let Taken {
                     token,

@@ -17,7 +17,7 @@ returns-in-Ok g c =
     let a = asked_by c.args.checked.now in
     order-taken g.D.Device.rules c.args.self.token.connection (consumed c.args.self.connection.now) c.args.self.request.now a (all_mapped j H.grants) H c.args.memory.now (g.D.Device.meaning c.args.device.now)
     _ _ _ _ (c.order_for-order.ensures ∙ ap (λ t. order_for t a) c.requires.ticket) c.accept.ensures c.in-Ok.is
-    (ap (λ C. with_rings C H) (c.hand_over.ensures ∙ ap₂ (λ t x. with_job t (Some x) H.rings) c.requires.ticket c.requires.own))
+    (ap (λ C. with_rings C H) (c.hand_over.ensures.rings ∙ ap₂ (λ t x. with_job t (Some x) H.rings) c.requires.ticket c.requires.own))
 
 pub returns-in-Err : goal.returns-in-Err
 returns-in-Err g c =
