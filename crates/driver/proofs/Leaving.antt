@@ -1,5 +1,8 @@
 -- What a back end leaves, by the way that it went.
-use Rattle.std.proofs.Common.{◌≡◌, ℕ, Bool, true, false, cond, ◌||◌, eqb, List, [], ◌∷◌, is_none, Some, None, Ok, Err, Option, Result, sym, refl, ap, ◌∙◌, subst, ap₂, arith}
+use Rattle.std.proofs.Common.{◌≡◌, ℕ, ◌<◌, Bool, true, false, cond, ◌||◌, eqb, List, [], ◌∷◌, length, is_none, get_or, Some, None, Ok, Err, Option, Result, sym, refl, ap, ◌∙◌, subst, ap₂, inl, inr, arith}
+use Rattle.std.specs.Option.{ok_or}
+use Rattle.std.proofs.lemmas.List.{get_or_past}
+use Rattle.std.proofs.lemmas.Bool.{cases_lt}
 use Rattle.rules.specs.Refusal.{refuse_first, and_then, if_some, granting, after_ok, either_of}
 use Rattle.device.specs.Meaning.{Rules, is_full, accepting, Accepted}
 use Rattle.device.specs.declared.orders.Order.{Order}
@@ -32,6 +35,11 @@ fault_some (Some g) f e = cc
 pub fault_none : (o : Option Miss) → ◌≡◌ {A = Result Unit Miss} (Ok tt) (if_some o (Ok tt) (λ g. Err g)) → o ≡ None
 fault_none None e = refl
 fault_none (Some g) e = absurd (let z : ◌≡◌ {A = ℕ} 0 1 = cc in omega arith)
+
+-- what was found is there
+pub found_there : {A E : Type 0} (o : Option A) (e : E) (a : A) → ok_or o e ≡ Ok a → o ≡ Some a
+found_there None e a is = absurd (let z : ◌≡◌ {A = ℕ} 0 1 = cc in omega arith)
+found_there (Some b) e a is = cc
 
 -- a ticket that is free is the next one, and its back end is not busy
 pub ticket_free : (busy : Bool) (n t : ℕ) → cond busy None (Some n) ≡ Some t → (busy ≡ false) × (t ≡ n)
