@@ -133,14 +133,14 @@ words_closed E conns c n lt there words =
       live = λ d p b.
           let end = w.live d p b in
           let apart : end.number ≡ c → ⊥ = λ is. (
-            let same : end.note ≡ n = same_some (at conns c) end.note n (ap (at conns) (sym is) ∙ end.live) there in
-            let port : p ≡ port_of c = end.port ∙ ap (λ k. k + 1) is in
-            elim end.whose [
-              | inl z ↦ dropped_bit first 0 (port_of c) below (subst (λ q. bit (word (dropped 0 (port_of c) first) 0) q ≡ 1) port (subst (λ e. bit (word (dropped 0 (port_of c) first) e) p ≡ 1) z b))
-              | inr g ↦
-                  let is-guest : d ≡ n.guest = g ∙ ap (λ (x : ConnectionNote). x.guest) same in
-                  dropped_bit E n.guest (port_of c) below (subst (λ q. bit (word first n.guest) q ≡ 1) port (subst (λ e. bit (word first e) p ≡ 1) is-guest (still first 0 (port_of c) d p b)))
-            ])
+          let same : end.note ≡ n = same_some (at conns c) end.note n (ap (at conns) (sym is) ∙ end.live) there in
+          let port : p ≡ port_of c = end.port ∙ ap (λ k. k + 1) is in
+          elim end.whose [
+            | inl z ↦ dropped_bit first 0 (port_of c) below (subst (λ q. bit (word (dropped 0 (port_of c) first) 0) q ≡ 1) port (subst (λ e. bit (word (dropped 0 (port_of c) first) e) p ≡ 1) z b))
+            | inr g ↦
+                let is-guest : d ≡ n.guest = g ∙ ap (λ (x : ConnectionNote). x.guest) same in
+                dropped_bit E n.guest (port_of c) below (subst (λ q. bit (word first n.guest) q ≡ 1) port (subst (λ e. bit (word first e) p ≡ 1) is-guest (still first 0 (port_of c) d p b)))
+          ])
           in
           record { number = end.number; note = end.note; live = get_or-set_other conns c end.number None None apart ∙ end.live; port = end.port; whose = end.whose };
     }

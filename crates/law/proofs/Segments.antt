@@ -235,7 +235,7 @@ segments_pinned F G a guest i j (s ∷ ss) hs ps b c few inside hl pl e d f =
     let here : part_of (get_or a.entries (place guest s.reference) blank).frame s ≡ part_in g.mapping.frame s = part_is F G a guest i j s g b c l hl pl ok (inside 0 (omega arith)) in
     let same : hs ++ next_handle a ∷ [] ≡ handles_of j1 = rw (e, next_is F G a guest i j s g b c l hl pl ok) (sym (next_handles F G a guest i j s g b c l hl pl ok)) in
     let place_same : ps ++ part_of (get_or a.entries (place guest s.reference) blank).frame s ∷ [] ≡ parts_of j1 =
-        ap (λ xs. xs ++ part_of (get_or a.entries (place guest s.reference) blank).frame s ∷ []) d ∙ ap (λ x. parts_of j ++ x ∷ []) here ∙ sym (next_parts F G a guest i j s g b c l hl pl ok) in
+    ap (λ xs. xs ++ part_of (get_or a.entries (place guest s.reference) blank).frame s ∷ []) d ∙ ap (λ x. parts_of j ++ x ∷ []) here ∙ sym (next_parts F G a guest i j s g b c l hl pl ok) in
     let r = segments_pinned F (next_grants F G a guest i j s g b c l hl pl ok) (next_account F G a guest i j s g b c l hl pl ok) guest (i + 1) j1 ss
     (hs ++ next_handle a ∷ []) (ps ++ part_of (get_or a.entries (place guest s.reference) blank).frame s ∷ []) (next_books F G a guest i j s g b c l hl pl ok) refl (omega arith)
     (λ n below. inside (suc n) (omega arith))

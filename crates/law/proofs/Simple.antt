@@ -266,8 +266,7 @@ module _ {M N : Type 0} (R : Rules M) (S : Rules N) (pick : ℕ → ℕ) (pk : P
       let none = or_parts (eqb p 0) (not (guests_end d (connection_at H.rings (p - 1)))) (none-held (send_rules H d p) (Ok tt) tt q).0.0 in
       let k = sent-on (connection_at H.rings (p - 1)) d none.1 in
       let n = connection-noted H.grants.handles H.rings a.connections a.jobs i.links (p - 1) k.0 k.1 in
-      let some : 0 < p = elim (cases_lt 0 p) [ inl l ↦ l | inr l ↦ absurd (eqb-false p 0 none.0 (omega arith)) ] in
-      (
+      let some : 0 < p = elim (cases_lt 0 p) [ inl l ↦ l | inr l ↦ absurd (eqb-false p 0 none.0 (omega arith)) ] in (
         omega (arith, taken_inside H.rings.connections (p - 1) k.0 k.1, i.links.connections-size),
         record { number = p - 1; note = n.0; live = n.1.0; port = omega arith; whose = inl refl },
       )
