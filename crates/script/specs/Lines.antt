@@ -1,10 +1,10 @@
 -- What a command says, and what a line of words may be read as.
-use Rattle.std.specs.Prelude.{◌≡◌, ℕ, ◌-◌, ◌<◌, true, false, List, [], ◌∷◌, ◌++◌, length, map, take, drop, Some, None, Ok, Err, Option, Result, MatchResult, ◌≢◌, vec_items}
+use Rattle.std.specs.Prelude.{◌≡◌, ℕ, ◌-◌, ◌<◌, true, false, ◌⊎◌, List, [], ◌∷◌, ◌++◌, length, map, take, drop, Some, None, Ok, Err, Option, Result, MatchResult, ◌≢◌, vec_items}
 use Rattle.std.specs.Borrow.{Bor}
 use Rattle.std.specs.Char.{is_whitespace, is_not_whitespace}
 use Rattle.std.specs.Str.{NoCharPasses, EmptyOrStartsWithPassing}
 use Rattle.script.specs.Hex.{hex_on}
-use Rattle.script.specs.Numbers.{read_on}
+use Rattle.script.specs.Numbers.{read_on, Decimal}
 use Rattle.script.specs.Verbs.{verb_name, takes}
 use Rattle.script.specs.declared.verb.Verb.{Verb}
 use Rattle.script.specs.declared.verb.Verb.TheVariants as verbs
@@ -110,24 +110,40 @@ NumbersIn ws c = numbers_of c ≡ map (λ w. read_on 0 w.now) (take (length (num
 abbrev pub BytesIn : List (Bor (List ℕ)) → Command → Type 0
 BytesIn ws c = bytes_in (drop (length (numbers_of c)) ws) ≡ Some (bytes_of c)
 
+-- the words behind a verb that are numbers of 16 bits: an entry's flags and domid
+abbrev pub half_words : {X : Type 0} → Verb → List X → List X
+half_words verbs.Entry ws = take 2 (drop 2 ws)
+half_words _ ws = []
+
+-- and those that are numbers of 32: all others but a store's bytes
+abbrev pub number_words : {X : Type 0} → Verb → List X → List X
+number_words verbs.Store ws = take 3 ws
+number_words verbs.Entry ws = take 2 ws ++ drop 4 ws
+number_words _ ws = ws
+
+-- one of the words is no decimal number of so many bits
+abbrev pub SomeNot : ℕ → List (Bor (List ℕ)) → Type 0
+SomeNot k [] = ⊥
+SomeNot k (w ∷ ws) = (Decimal k w.now → ⊥) ⊎ SomeNot k ws
+
 -- what is wrong with the words behind a verb
 abbrev pub WrongBehind : Verb → List (Bor (List ℕ)) → LineError → Type 0
 WrongBehind verb ws NoSuchCall = ⊥
 WrongBehind verb ws (WrongWords v) = (v ≡ verb) × (takes verb (length ws) ≡ false)
-WrongBehind verb ws NotNumber = Unit {0}
-WrongBehind verb ws NotHalf = Unit {0}
+WrongBehind verb ws NotNumber = SomeNot 32 (number_words verb ws)
+WrongBehind verb ws NotHalf = SomeNot 16 (half_words verb ws)
 WrongBehind verb ws NotHex = bytes_in (drop 3 ws) ≡ None
-WrongBehind verb ws NoMemory = Unit {0}
+WrongBehind verb ws NoMemory = (verb ≡ verbs.Store) × (length ws ≡ 4)
 
 -- why a line of words is refused
 abbrev pub Refused : List (Bor (List ℕ)) → LineError → Type 0
 Refused [] e = ⊥
 Refused (name ∷ ws) NoSuchCall = (v : Verb) → name.now ≢ verb_name v
 Refused (name ∷ ws) (WrongWords v) = (name.now ≡ verb_name v) × (takes v (length ws) ≡ false)
-Refused (name ∷ ws) NotNumber = Unit {0}
-Refused (name ∷ ws) NotHalf = Unit {0}
+Refused (name ∷ ws) NotNumber = (v : Verb) × (name.now ≡ verb_name v) × SomeNot 32 (number_words v ws)
+Refused (name ∷ ws) NotHalf = (v : Verb) × (name.now ≡ verb_name v) × SomeNot 16 (half_words v ws)
 Refused (name ∷ ws) NotHex = bytes_in (drop 3 ws) ≡ None
-Refused (name ∷ ws) NoMemory = Unit {0}
+Refused (name ∷ ws) NoMemory = (name.now ≡ verb_name verbs.Store) × (length ws ≡ 4)
 
 -- the verb of that name, or no verb has it
 abbrev pub IsVerb : List ℕ → Result Verb LineError → Type 0

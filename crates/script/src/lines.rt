@@ -1,7 +1,8 @@
 // The words of a line as a command.
-ghost use Rattle.std.specs.Prelude.{◌≡◌, ◌==◌, IfErr, IfOk, IfSome, length};
+ghost use Rattle.std.specs.Prelude.{◌≡◌, ◌==◌, IfErr, IfOk, IfSome, MatchResult, length};
 ghost use Rattle.std.specs.List.{before_first};
 ghost use Rattle.script.specs.Lines.{AreWords, Asks, Refused, Writes};
+ghost use Rattle.script.specs.declared.error.LineError.TheVariants.{NoMemory};
 
 use crate::by_count::command;
 use crate::command::Command;
@@ -17,7 +18,7 @@ pub fn without_comment(line: &str) -> &str
 
 /// The words of a line, up to a comment.
 pub fn words(heap: Global, line: &str) -> Result<Vec<&str>, LineError>
-    ensures { IfOk result (λ ws. AreWords (before_first (λ c. c == 35) line.now) ws.items) }
+    ensures { MatchResult result (λ ws. AreWords (before_first (λ c. c == 35) line.now) ws.items) (λ e. e ≡ NoMemory) }
 {
     let words = without_comment(line).split_whitespace();
     Ok(words.collect(heap)?)
