@@ -132,7 +132,7 @@ WrongBehind verb ws NoSuchCall = ⊥
 WrongBehind verb ws (WrongWords v) = (v ≡ verb) × (takes verb (length ws) ≡ false)
 WrongBehind verb ws NotNumber = SomeNot 32 (number_words verb ws)
 WrongBehind verb ws NotHalf = SomeNot 16 (half_words verb ws)
-WrongBehind verb ws NotHex = bytes_in (drop 3 ws) ≡ None
+WrongBehind verb ws NotHex = (verb ≡ verbs.Store) × (length ws ≡ 4) × (bytes_in (drop 3 ws) ≡ None)
 WrongBehind verb ws NoMemory = (verb ≡ verbs.Store) × (length ws ≡ 4)
 
 -- why a line of words is refused
@@ -142,7 +142,7 @@ Refused (name ∷ ws) NoSuchCall = (v : Verb) → name.now ≢ verb_name v
 Refused (name ∷ ws) (WrongWords v) = (name.now ≡ verb_name v) × (takes v (length ws) ≡ false)
 Refused (name ∷ ws) NotNumber = (v : Verb) × (name.now ≡ verb_name v) × SomeNot 32 (number_words v ws)
 Refused (name ∷ ws) NotHalf = (v : Verb) × (name.now ≡ verb_name v) × SomeNot 16 (half_words v ws)
-Refused (name ∷ ws) NotHex = bytes_in (drop 3 ws) ≡ None
+Refused (name ∷ ws) NotHex = (name.now ≡ verb_name verbs.Store) × (length ws ≡ 4) × (bytes_in (drop 3 ws) ≡ None)
 Refused (name ∷ ws) NoMemory = (name.now ≡ verb_name verbs.Store) × (length ws ≡ 4)
 
 -- the verb of that name, or no verb has it
