@@ -12,7 +12,7 @@ use connection::Job;
 use device::{Direction, Order, Part};
 use frame::{Domain, FRAME_SIZE, Frames};
 use grant::{GrantFault, Grants, Mode};
-use request::{Checked, Miss, Parts, Span};
+use request::{Checked, Miss, Span, Spans};
 
 /// The domain that the back ends run in.
 pub const BACK_END: Domain = Domain { id: 0 };
@@ -41,7 +41,7 @@ pub fn order_for(ticket: u8, checked: &Checked) -> Order
         ticket,
         direction: checked.direction,
         place: checked.place,
-        length: checked.parts.length,
+        length: checked.spans.length,
     }
 }
 
@@ -103,13 +103,13 @@ pub fn pin_segments(
     frames: &Frames,
     grants: &mut Grants,
     guest: u8,
-    parts: &Parts,
+    spans: &Spans,
     job: &mut Job,
 ) -> Result<(), Miss>
-    ensures { Pinned frames.now guest (listed parts.now) grants.old job.old result grants.new job.new }
+    ensures { Pinned frames.now guest (listed spans.now) grants.old job.old result grants.new job.new }
 {
     job.count = 0;
-    for span in parts.spans() {
+    for span in spans.as_slice() {
         if let Err(fault) = pin_segment(frames, grants, guest, span, job) {
             unpin_segments(grants, job);
             return Err(Miss {

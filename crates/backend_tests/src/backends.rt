@@ -7,7 +7,7 @@ use event::{Events, Port};
 use frame::{Domain, Frames};
 use grant::{GrantFault, Grants};
 use netif::ReceiveRequest;
-use request::{Checked, Miss, Parts, Span};
+use request::{Checked, Miss, Span, Spans};
 use ring::{Reply, Word, put_word, word_or_zero};
 use ringpage::Request;
 use std::test::Fail;
@@ -29,7 +29,7 @@ fn two_segments() -> Checked {
         place: 9,
         id: 7,
         operation: 1,
-        parts: Parts {
+        spans: Spans {
             table,
             count: 2,
             length: 5120,
@@ -72,13 +72,13 @@ fn segments(rt: HostRuntime) -> Result<(), Fail> {
     assert_eq!(rt; order_for(3, &checked).length, 5120);
     let mut job = job_for(0, Kind::Block, &checked);
     assert_eq!(rt;
-        number(pin_segments(&frames, &mut grants, 1, &checked.parts, &mut job)),
+        number(pin_segments(&frames, &mut grants, 1, &checked.spans, &mut job)),
         (-1, 1)
     );
     assert_eq!(rt; grants.pins(2), 0);
     grant(&mut grants, one, 6, 3)?;
     assert_eq!(rt;
-        number(pin_segments(&frames, &mut grants, 1, &checked.parts, &mut job)),
+        number(pin_segments(&frames, &mut grants, 1, &checked.spans, &mut job)),
         (0, 0)
     );
     assert_eq!(rt; job.count, 2);
@@ -160,15 +160,15 @@ fn taken_and_answered(rt: HostRuntime) -> Result<(), Fail> {
 fn tickets(rt: HostRuntime) {
     let job = job_for(2, Kind::Block, &two_segments());
     let mut rings = Rings::new();
-    assert_eq!(rt; rings.next_ticket(2), Some(4));
+    assert_eq!(rt; rings.free_ticket(2), Some(4));
     rings.add_job(4, &job);
-    assert_eq!(rt; rings.next_ticket(2), Some(5));
+    assert_eq!(rt; rings.free_ticket(2), Some(5));
     rings.add_job(5, &job);
-    assert_eq!(rt; rings.next_ticket(2), None);
+    assert_eq!(rt; rings.free_ticket(2), None);
     rings.end_job(4);
-    assert_eq!(rt; rings.next_ticket(2), Some(4));
+    assert_eq!(rt; rings.free_ticket(2), Some(4));
     assert!(rt; rings.has_jobs(2));
     assert!(rt; rings.job(Bay::BlockBay, 5).is_some());
     assert!(rt; rings.job(Bay::NetBay, 5).is_none());
-    assert_eq!(rt; rings.next_ticket(6), None);
+    assert_eq!(rt; rings.free_ticket(6), None);
 }

@@ -58,7 +58,7 @@ impl Rings {
     }
 
     /// The ticket for the next job of a connection, unless it has two jobs already or there is no such connection.
-    pub fn next_ticket(&self, number: u32) -> Option<u8>
+    pub fn free_ticket(&self, number: u32) -> Option<u8>
         ensures value { result ≡ free_ticket self.now.jobs number }
         ensures within { IfSome result (λ t. t < 12) }
     {

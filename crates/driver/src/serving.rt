@@ -101,7 +101,7 @@ impl<'a> Taken<'a> {
             &tables.frames,
             &mut tables.grants,
             connection.guest,
-            &checked.parts,
+            &checked.spans,
             &mut job,
         );
         match pinned {
@@ -140,13 +140,13 @@ impl<'a> Taken<'a> {
 }
 
 // The ticket for a connection's next job, unless its back end is busy: the device is full, or has two jobs of it.
-fn free_ticket<D: Device>(device: &D, rings: &Rings, number: ConnectionNumber) -> Option<u8>
+fn ticket_if_room<D: Device>(device: &D, rings: &Rings, number: ConnectionNumber) -> Option<u8>
     ensures { result ≡ (if is_full D.rules (D.meaning device.now) || has_two_jobs rings.now.jobs number.number then None else Some (next_ticket rings.now.jobs number.number)) }
 {
     if device.full() {
         return None;
     }
-    rings.next_ticket(u32::from(number.number))
+    rings.free_ticket(u32::from(number.number))
 }
 
 // A live connection is looked at, and its next request spent.
@@ -160,7 +160,7 @@ fn serve_live<D: Device>(
     requires { connection_at tables.old.rings number.number ≡ Some connection.now }
     ensures { Leaves (served_on D.rules number.number connection.now tables.old memory.old (D.meaning device.old)) result tables.new memory.new (D.meaning device.new) }
 {
-    let ticket = free_ticket(device, &tables.rings, number);
+    let ticket = ticket_if_room(device, &tables.rings, number);
     let Some(ticket) = look(connection, memory, ticket)? else {
         ask_event(connection, memory);
         return Ok(Answer::Idle);

@@ -11,7 +11,7 @@ use Rattle.request.specs.declared.passing.Checked.{Checked}
 
 -- what the code's value says
 abbrev pub asked_by : Checked → Asked
-asked_by k = record { direction = k.direction; place = k.place; length = k.parts.length; id = k.id; operation = k.operation; spans = listed k.parts }
+asked_by k = record { direction = k.direction; place = k.place; length = k.spans.length; id = k.id; operation = k.operation; spans = listed k.spans }
 
 -- the request's own fields first, then whether the order fits the device
 abbrev pub check_verdict : {M : Type 0} → Rules M → M → Request → Result Asked Miss

@@ -6,7 +6,7 @@ use Rattle.device.specs.declared.orders.Direction.TheVariants.{Inward, Outward}
 use Rattle.ringpage.specs.declared.slot.Request.{Request}
 use Rattle.ringpage.specs.declared.slot.Request.TheVariants.{OfBlock, OfSend, OfReceive}
 use Rattle.request.specs.declared.content.Span.{Span}
-use Rattle.request.specs.declared.table.Parts.{Parts}
+use Rattle.request.specs.declared.table.Spans.{Spans}
 
 -- sectors of 512 bytes, first to last, of the frame granted under the reference
 abbrev pub segment_span : Segment → Span
@@ -58,5 +58,5 @@ abbrev pub asked : Request → Asked
 asked q = record { direction = direction_of q; place = place_of q; length = length_of q; id = id_of q; operation = operation_of q; spans = spans_of q }
 
 -- the parts that a table holds
-abbrev pub listed : Parts → List Span
+abbrev pub listed : Spans → List Span
 listed p = take p.count p.table

@@ -9,4 +9,4 @@ mod table;
 pub use content::{Span, direction_of, id_of, operation_of, place_of, segment_span};
 pub use fields::{Miss, check_fields};
 pub use passing::{Checked, check, worked_examples};
-pub use table::{Parts, parts_of};
+pub use table::{Spans, spans_of};

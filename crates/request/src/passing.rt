@@ -6,7 +6,7 @@ ghost use Rattle.request.specs.Examples.{Worked};
 
 use crate::content::{direction_of, id_of, operation_of, place_of};
 use crate::fields::{Miss, check_fields};
-use crate::table::{Parts, parts_of};
+use crate::table::{Spans, spans_of};
 use device::{Device, Direction};
 use ring::RingFault;
 use ringpage::Request;
@@ -18,7 +18,7 @@ pub struct Checked {
     pub place: u64,
     pub id: u64,
     pub operation: u8,
-    pub parts: Parts,
+    pub spans: Spans,
 }
 
 /// Whether the request's own fields are in order and its order fits the device.
@@ -26,10 +26,10 @@ pub fn check<D: Device>(request: &Request, device: &D) -> Result<Checked, Miss>
     ensures { granting asked_by result ≡ check_verdict D.rules (D.meaning device.now) request.now }
 {
     check_fields(request)?;
-    let parts = parts_of(request);
+    let spans = spans_of(request);
     let direction = direction_of(request);
     let place = place_of(request);
-    if !device.fits(direction, place, parts.length) {
+    if !device.fits(direction, place, spans.length) {
         return Err(RingFault::Unfit.into());
     }
     Ok(Checked {
@@ -37,7 +37,7 @@ pub fn check<D: Device>(request: &Request, device: &D) -> Result<Checked, Miss>
         place,
         id: id_of(request),
         operation: operation_of(request),
-        parts,
+        spans,
     })
 }
 

@@ -1,4 +1,4 @@
-// The parts of frames that a request names, in order.
+// The spans of frames that a request names, in order.
 ghost use Rattle.std.specs.Prelude.{◌≡◌, ◌<◌, ◌≤◌, ◌^◌, [], ◌∷◌, length, map, take, sum_by};
 ghost use Rattle.request.specs.Content.{segment_span, spans_of, length_of, listed};
 
@@ -11,15 +11,15 @@ use rules::front;
 /// The first `count` places of a table, and how many bytes they have together. A plain `Copy` record, as `Checked` is
 /// that holds it: a vector of a fixed capacity is none.
 #[derive(Clone, Copy)]
-pub struct Parts {
+pub struct Spans {
     pub table: [Span; SEGMENTS],
     pub count: u8,
     pub length: u32,
 }
 
-impl Parts {
-    /// The parts, in their order.
-    pub fn spans(&self) -> &[Span]
+impl Spans {
+    /// The spans, in their order.
+    pub fn as_slice(&self) -> &[Span]
         ensures is { result.now ≡ listed self.now }
         ensures bound { length result.now ≤ 11 }
     {
@@ -27,18 +27,18 @@ impl Parts {
     }
 }
 
-fn one_part(span: Span) -> Parts
+fn one_span(span: Span) -> Spans
     ensures spans { listed result ≡ span ∷ [] }
     ensures length { result.length ≡ span.length }
 {
-    Parts {
+    Spans {
         table: [span; SEGMENTS],
         count: 1,
         length: span.length,
     }
 }
 
-// The bytes of all parts together.
+// The bytes of all spans together.
 fn total(spans: &[Span]) -> u32
     requires { sum_by (λ s. s.length) spans.now < 2 ^ 32 }
     ensures { result ≡ sum_by (λ s. s.length) spans.now }
@@ -46,33 +46,33 @@ fn total(spans: &[Span]) -> u32
     spans.iter().map(|span| span.length).sum()
 }
 
-fn block_parts(request: &BlockRequest) -> Parts
+fn block_spans(request: &BlockRequest) -> Spans
     ensures spans { listed result ≡ map segment_span (take request.now.count request.now.segments) }
     ensures length { result.length ≡ sum_by (λ s. s.length) (map segment_span (take request.now.count request.now.segments)) }
 {
     let segments = front(&request.segments, request.count as usize);
     let table = request.segments.map(segment_span);
     let length = total(front(&table, segments.len()));
-    Parts {
+    Spans {
         table,
         count: segments.len() as u8,
         length,
     }
 }
 
-/// The parts that a request names.
-pub fn parts_of(request: &Request) -> Parts
+/// The spans that a request names.
+pub fn spans_of(request: &Request) -> Spans
     ensures spans { listed result ≡ spans_of request.now }
     ensures length { result.length ≡ length_of request.now }
 {
     match request {
-        Request::OfBlock(q) => block_parts(q),
-        Request::OfSend(q) => one_part(Span {
+        Request::OfBlock(q) => block_spans(q),
+        Request::OfSend(q) => one_span(Span {
             reference: q.reference,
             start: u32::from(q.offset),
             length: u32::from(q.size),
         }),
-        Request::OfReceive(q) => one_part(Span {
+        Request::OfReceive(q) => one_span(Span {
             reference: q.reference,
             start: 0,
             length: PAGE_SIZE as u32,

@@ -1,7 +1,7 @@
 // Requests: what they ask for, and what their own fields are refused for.
 use blkif::{BlockRequest, Segment};
 use netif::SendRequest;
-use request::{check_fields, parts_of};
+use request::{check_fields, spans_of};
 use ringpage::Request;
 
 // A block request of two segments: a whole frame, and the sectors 2 and 3 of another.
@@ -47,15 +47,15 @@ fn block_checks(rt: HostRuntime) {
 
 // 8 sectors from byte 0 on, and 2 from byte 2 * 512 = 1024 on: 4,096 + 1,024 = 5,120 bytes together.
 #[test]
-fn block_parts(rt: HostRuntime) {
-    let parts = parts_of(&block(0, 2, 2, 3));
-    assert_eq!(rt; parts.count, 2);
-    assert_eq!(rt; parts.length, 5120);
-    assert_eq!(rt; parts.table[0].start, 0);
-    assert_eq!(rt; parts.table[0].length, 4096);
-    assert_eq!(rt; parts.table[1].reference, 6);
-    assert_eq!(rt; parts.table[1].start, 1024);
-    assert_eq!(rt; parts.table[1].length, 1024);
+fn block_spans(rt: HostRuntime) {
+    let spans = spans_of(&block(0, 2, 2, 3));
+    assert_eq!(rt; spans.count, 2);
+    assert_eq!(rt; spans.length, 5120);
+    assert_eq!(rt; spans.table[0].start, 0);
+    assert_eq!(rt; spans.table[0].length, 4096);
+    assert_eq!(rt; spans.table[1].reference, 6);
+    assert_eq!(rt; spans.table[1].start, 1024);
+    assert_eq!(rt; spans.table[1].length, 1024);
 }
 
 #[test]

@@ -39,7 +39,7 @@ returns c =
     let G = c.loop-span.grants in
     let j = c.loop-span.job in
     let done = at_drop_all (pin_all F guest j.count j G) c.spans-span-items.result.now c.loop-span.span-index c.loop-span-test.false in
-    pinned_by F guest (listed c.args.parts.now) c.args.grants.now c.args.job.now _ (Ok tt) G j (sym c.loop-span.invariant.1 ∙ done) refl refl refl
+    pinned_by F guest (listed c.args.spans.now) c.args.grants.now c.args.job.now _ (Ok tt) G j (sym c.loop-span.invariant.1 ∙ done) refl refl refl
 
 pub returns-in-Err : goal.returns-in-Err
 returns-in-Err c =
@@ -55,7 +55,7 @@ returns-in-Err c =
     let fault = c.in-Err.fault in
     let refused = pin-refused F guest s G j c.pin_segment.result G' j' c.pin_segment.ensures (drop (i + 1) spans) fault c.in-Err.is in
     let done = at_drop_more (pin_all F guest j.count j G) spans i none c.loop-span-test.true ∙ refused.0 in
-    pinned_by F guest (listed c.args.parts.now) c.args.grants.now c.args.job.now _ _ c.unpin_segments.new.grants j' (sym c.loop-span.invariant.1 ∙ done)
+    pinned_by F guest (listed c.args.spans.now) c.args.grants.now c.args.job.now _ _ c.unpin_segments.new.grants j' (sym c.loop-span.invariant.1 ∙ done)
     (ap (λ f. Err (miss f j'.count)) c.into.ensures ∙ ap (λ (k : Job). Err (miss (OfGrant fault) k.count)) refused.1)
     (c.unpin_segments.ensures ∙ ap₂ (λ k H. released_all (handles_of k) H) refused.1 refused.2)
     refused.1

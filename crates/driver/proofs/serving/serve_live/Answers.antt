@@ -21,12 +21,12 @@ spend-requires g c =
     let n = c.args.number.number in
     let C = c.args.tables.now.rings in
     let k = c.args.connection.now in
-    let o = c.free_ticket-ticket.result in
+    let o = c.ticket_if_room-ticket.result in
     let busy = is_full g.D.Device.rules (g.D.Device.meaning c.args.device.now) || has_two_jobs C.jobs n in
     let rings = c.consume.ensures.rings in
     let token = c.consume.ensures.token in
     let found = found_ticket o (look (is_none o) k c.args.memory.now) c.in-Some.ticket (ap Ok (sym c.in-Some.is) ∙ sym c.in_ok-ticket.was ∙ c.look.ensures) in
-    let free = ticket_free busy (next_ticket C.jobs n) c.in-Some.ticket (sym c.free_ticket-ticket.ensures ∙ found.1) in
+    let free = ticket_free busy (next_ticket C.jobs n) c.in-Some.ticket (sym c.ticket_if_room-ticket.ensures ∙ found.1) in
     record {
       live = ap₂ (λ (K : Rings) (t : Consumed). connection_at K t.connection) rings token
           ∙ get_or-set_same C.connections n (Some (consumed k)) None (taken_inside C.connections n k c.requires);
@@ -41,9 +41,9 @@ returns-in_default g c =
     let H = c.args.tables.now in
     let m = c.args.memory.now in
     let k = c.args.connection.now in
-    let o = c.free_ticket-ticket.result in
+    let o = c.ticket_if_room-ticket.result in
     let busy = is_full D x || has_two_jobs H.rings.jobs n in
-    let same = ap is_none c.free_ticket-ticket.ensures ∙ none_free busy (next_ticket H.rings.jobs n) in
+    let same = ap is_none c.ticket_if_room-ticket.ensures ∙ none_free busy (next_ticket H.rings.jobs n) in
     let none = found_none o (ahead k.kind k.req_cons k.rsp_prod (word_or_zero m k.page ReqProd)) (ap Ok (sym c.in_default.is) ∙ sym c.in_ok-ticket.was ∙ c.look.ensures) in
     leaves_by _ _ _ _ _ _ (looked_at D n k H m x (Ok false) (ap (λ b. look b k m) (sym same) ∙ none))
     (record { answer = refl; tables = refl; memory = c.ask_event.ensures.after; device = refl })
@@ -56,10 +56,10 @@ returns-in_err-ticket g c =
     let H = c.args.tables.now in
     let m = c.args.memory.now in
     let k = c.args.connection.now in
-    let o = c.free_ticket-ticket.result in
+    let o = c.ticket_if_room-ticket.result in
     let e = c.in_err-ticket.field-0.0 in
     let busy = is_full D x || has_two_jobs H.rings.jobs n in
-    let same = ap is_none c.free_ticket-ticket.ensures ∙ none_free busy (next_ticket H.rings.jobs n) in
+    let same = ap is_none c.ticket_if_room-ticket.ensures ∙ none_free busy (next_ticket H.rings.jobs n) in
     let fault = found_fault o (look (is_none o) k m) e (sym c.in_err-ticket.was ∙ c.look.ensures) in
     let p = err_from_is_err_and c.from_residual.result c.from_residual.ensures.1 in
     leaves_by _ _ _ _ _ _ (looked_at D n k H m x (Err e) (ap (λ b. look b k m) (sym same) ∙ fault))
@@ -73,9 +73,9 @@ returns g c =
     let H = c.args.tables.now in
     let m = c.args.memory.now in
     let k = c.args.connection.now in
-    let o = c.free_ticket-ticket.result in
+    let o = c.ticket_if_room-ticket.result in
     let busy = is_full D x || has_two_jobs H.rings.jobs n in
-    let same = ap is_none c.free_ticket-ticket.ensures ∙ none_free busy (next_ticket H.rings.jobs n) in
+    let same = ap is_none c.ticket_if_room-ticket.ensures ∙ none_free busy (next_ticket H.rings.jobs n) in
     let found = found_ticket o (look (is_none o) k m) c.in-Some.ticket (ap Ok (sym c.in-Some.is) ∙ sym c.in_ok-ticket.was ∙ c.look.ensures) in
     let on : Request → Rings → Consumed → Outcome g.D.Device.Meaning = λ q C t. spent D t.connection (consumed k) q (with_rings C H) m x in
     leaves_by _ _ _ _ _ _

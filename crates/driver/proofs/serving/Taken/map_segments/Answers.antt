@@ -20,7 +20,7 @@ hand_over-requires g c =
     let t = c.args.self.token in
     let k = consumed c.args.self.connection.now in
     let a = asked_by c.args.checked.now in
-    let spans = listed c.args.checked.now.parts in
+    let spans = listed c.args.checked.now.spans in
     let start = job_for t.connection k.kind a in
     let fresh = ap₂ (λ (i o : ℕ). record start { id = i; operation = o })
     (c.args.self.id ∙ sym (ap (λ (b : Asked). b.id) c.requires.asked)) (c.args.self.operation ∙ sym (ap (λ (b : Asked). b.operation) c.requires.asked)) in
@@ -41,7 +41,7 @@ returns-in-Ok g c =
     let k = consumed c.args.self.connection.now in
     let q = c.args.self.request.now in
     let a = asked_by c.args.checked.now in
-    let done : Job → MappingDone = λ j. pin_all H.frames k.guest 0 (emptied j) H.grants (listed c.args.checked.now.parts) in
+    let done : Job → MappingDone = λ j. pin_all H.frames k.guest 0 (emptied j) H.grants (listed c.args.checked.now.spans) in
     let job = c.job_for-job.ensures in
     let fresh = job_for n k.kind a in
     let none : (done fresh).fault ≡ None =
@@ -61,7 +61,7 @@ returns-in-Err g c =
     let k = consumed c.args.self.connection.now in
     let q = c.args.self.request.now in
     let a = asked_by c.args.checked.now in
-    let done : Job → MappingDone = λ j. pin_all H.frames k.guest 0 (emptied j) H.grants (listed c.args.checked.now.parts) in
+    let done : Job → MappingDone = λ j. pin_all H.frames k.guest 0 (emptied j) H.grants (listed c.args.checked.now.spans) in
     let job = c.job_for-job.ensures in
     let fresh = job_for n k.kind a in
     let fault : (done fresh).fault ≡ Some c.in-Err.miss =

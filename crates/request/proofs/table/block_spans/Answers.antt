@@ -4,7 +4,7 @@ use Rattle.blkif.specs.declared.block.Segment.{Segment}
 use Rattle.request.specs.Content.{segment_span}
 use Rattle.request.specs.declared.content.Span.{Span}
 use Rattle.request.proofs.Mapped.{mapped}
-use Rattle.request.proofs.table.block_parts.Goals as goal
+use Rattle.request.proofs.table.block_spans.Goals as goal
 
 none : Segment
 none = record { reference = 0; first = 0; last = 0 }
