@@ -1,6 +1,8 @@
 // The number of a connection.
 ghost use Rattle.std.specs.Prelude.{◌≡◌, ◌<◌, ◌≤◌, MatchResult};
 
+use crate::tables::CONNECTIONS;
+
 /// One of the six numbers of a host's connections.
 #[derive(Clone, Copy, Debug, PartialEq, Eq)]
 pub struct ConnectionNumber {
@@ -18,7 +20,7 @@ impl TryFrom<u32> for ConnectionNumber {
     ghost try_from_gives = { λ number r. MatchResult r (λ n. n.number ≡ number) (λ _. 6 ≤ number) };
 
     fn try_from(number: u32) -> Result<ConnectionNumber, NoSuchConnection> {
-        if number < 6 {
+        if (number as usize) < CONNECTIONS {
             Ok(ConnectionNumber {
                 number: number as u8,
             })

@@ -7,7 +7,7 @@ ghost use Rattle.connection.specs.Tables.{new_rings, connection_at, job_at, in_b
 use crate::kinds::{Bay, bay_of};
 use crate::number::ConnectionNumber;
 use crate::tables::{CONNECTIONS, Connection, JOBS, Job, Rings};
-use rules::{at, first_free, put};
+use rules::{first_free, put};
 
 impl Rings {
     /// No connection and no job.
@@ -21,11 +21,11 @@ impl Rings {
     }
 
     /// The connection with this number, if it is live.
-    pub fn connection(&self, number: u32) -> Option<Connection>
-        ensures value { result ≡ connection_at self.now number }
+    pub fn connection(&self, number: u32) -> Option<&Connection>
+        ensures value { option_map (λ k. k.now) result ≡ connection_at self.now number }
         ensures within { OnSome result (number < 6) }
     {
-        at(&self.connections, number as usize)
+        self.connections.get(number as usize)?.as_ref()
     }
 
     /// The connection with this number, if it is live, and its number.
@@ -33,7 +33,7 @@ impl Rings {
         ensures value { option_map (λ l. l.1) result ≡ connection_at self.now number }
         ensures number { IfSome result (λ l. l.0.number ≡ number) }
     {
-        let connection = self.connection(number)?;
+        let connection = *self.connection(number)?;
         let number = ConnectionNumber {
             number: number as u8,
         };

@@ -11,7 +11,7 @@ use rules::front;
 pub const CONNECTIONS: usize = 6;
 
 /// Two jobs to a connection.
-pub const JOBS: usize = 12;
+pub const JOBS: usize = 2 * CONNECTIONS;
 
 /// A live connection: its kind, its guest, the frame of its ring page, domain 0's handle of that, and the back end's
 /// own indices, which no guest writes.

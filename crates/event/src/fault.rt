@@ -7,6 +7,7 @@ use abi::Errno;
 /// The faults of the layer of events.
 #[derive(Clone, Copy, Debug, PartialEq, Eq)]
 pub enum EventFault {
+    /// No port has the number, or it is not the caller's end of a live connection.
     BadPort,
 }
 

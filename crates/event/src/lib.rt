@@ -7,4 +7,4 @@ mod port;
 
 pub use fault::EventFault;
 pub use pending::Events;
-pub use port::Port;
+pub use port::{PORTS, Port};

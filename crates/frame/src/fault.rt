@@ -7,11 +7,17 @@ use abi::{GrantStatus, HouseStatus};
 /// The faults of the layer of frames.
 #[derive(Clone, Copy, Debug, PartialEq, Eq)]
 pub enum FrameFault {
+    /// The frame is not below the number of frames, or not in the memory.
     NoFrame,
+    /// The frame to be taken has an owner.
     Owned,
+    /// The frame to be given back is not the caller's.
     NotOwner,
+    /// The frame to be given back has pins.
     Pinned,
+    /// The part ends past its frame.
     OutOfFrame,
+    /// The caller neither owns the frame nor holds a mapping that would do.
     NoAccess,
 }
 

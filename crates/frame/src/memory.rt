@@ -4,10 +4,11 @@ ghost use Rattle.rules.specs.Refusal.{granting};
 ghost use Rattle.frame.specs.Memory.{past_frame, part_verdict, Written, ReadPart};
 
 use crate::fault::FrameFault;
+use abi::PAGE_SIZE;
 use std::ops::Range;
 
-/// The bytes of a frame.
-pub const FRAME_SIZE: usize = 4096;
+/// The bytes of a frame, which holds one page.
+pub const FRAME_SIZE: usize = PAGE_SIZE;
 
 // Whether a part lies inside its frame.
 pub(crate) fn fits(offset: u32, size: usize) -> bool

@@ -6,7 +6,7 @@ ghost use Rattle.grant.specs.Entries.{entry_rules, end_rules, with_entry, with_f
 
 use crate::fault::GrantFault;
 use crate::reference::Reference;
-use crate::tables::{Grants, Record, place};
+use crate::tables::{ALL_ENTRIES, ALL_HANDLES, Grants, Record, place};
 use abi::GrantEntry;
 use frame::Domain;
 
@@ -16,9 +16,9 @@ impl Grants {
         ensures { result ≡ new_grants }
     {
         Grants {
-            entries: [GrantEntry::default(); 256],
-            records: [Record::default(); 256],
-            handles: [None; 512],
+            entries: [GrantEntry::default(); ALL_ENTRIES],
+            records: [Record::default(); ALL_ENTRIES],
+            handles: [None; ALL_HANDLES],
         }
     }
 

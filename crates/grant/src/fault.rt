@@ -7,15 +7,25 @@ use abi::{Errno, GrantStatus, HouseStatus};
 /// The faults of the layer of grants.
 #[derive(Clone, Copy, Debug, PartialEq, Eq)]
 pub enum GrantFault {
+    /// No entry has the reference.
     NoReference,
+    /// The entry to be ended is marked as mapped.
     InUse,
+    /// No mode has the number.
     BadMode,
+    /// The owner that a map names is no domain, or the mapper itself.
     BadOwner,
+    /// No handle is free.
     NoHandle,
+    /// The entry does not permit access, or it names another domain.
     NotGranted,
+    /// The entry's frame is not its owner's.
     NotOwners,
+    /// The map is for writing, and the entry is read-only.
     ReadOnly,
+    /// The record is pinned with another mapper or frame.
     PinnedOtherwise,
+    /// The handle is not in use.
     NoMapping,
 }
 

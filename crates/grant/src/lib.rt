@@ -13,4 +13,4 @@ mod tables;
 pub use fault::GrantFault;
 pub use mapping::Granted;
 pub use reference::Reference;
-pub use tables::{Grants, Mapping, Mode, Record};
+pub use tables::{ENTRIES, Grants, HANDLES, Mapping, Mode, Record};

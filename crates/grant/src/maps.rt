@@ -7,7 +7,7 @@ ghost use Rattle.grant.specs.Map.{mode_number, owner_rules, entry_says, map_verd
 use crate::fault::GrantFault;
 use crate::mapping::Granted;
 use crate::reference::Reference;
-use crate::tables::{Grants, Mapping, Mode, Record, key, place};
+use crate::tables::{Grants, HANDLES, Mapping, Mode, Record, key, place};
 use abi::GrantEntry;
 use frame::{Domain, Frames};
 use rules::first_free;
@@ -156,7 +156,7 @@ impl Grants {
     pub fn in_use(&self, domain: Domain, handle: u32) -> Option<Mapping>
         ensures { result ≡ in_use self.now domain.id handle }
     {
-        if handle > 63 {
+        if handle as usize >= HANDLES {
             return None;
         }
         self.handles[key(domain, handle)]

@@ -3,7 +3,7 @@ ghost use Rattle.std.specs.Prelude.{◌≡◌, ◌<◌};
 ghost use Rattle.grant.specs.Pin.{pin, unused, released};
 
 use crate::mapping::Granted;
-use crate::tables::{Grants, Mode, key, place};
+use crate::tables::{ALL_ENTRIES, Grants, Mode, key, place};
 use abi::{GTF_READING, GTF_WRITING};
 use frame::Domain;
 
@@ -57,7 +57,8 @@ impl Grants {
             return;
         };
         let i = place(mapping.owner, mapping.reference);
-        if i < 256 {
+        // A handle holds plain numbers: past the tables there is no record to leave.
+        if i < ALL_ENTRIES {
             self.leave(i, mapping.mode);
         }
         self.handles[key(domain, handle)] = None;

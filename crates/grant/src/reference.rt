@@ -4,6 +4,7 @@ ghost use Rattle.rules.specs.Refusal.{refuse_first, granting};
 ghost use Rattle.grant.specs.Entries.{entry_rules};
 
 use crate::fault::GrantFault;
+use crate::tables::ENTRIES;
 
 /// The number of an entry in its domain's table.
 #[derive(Clone, Copy, Debug, PartialEq, Eq)]
@@ -18,7 +19,7 @@ impl TryFrom<u32> for Reference {
     ghost try_from_gives = { λ number r. granting (λ x. x.number) r ≡ refuse_first (entry_rules number) (Ok number) };
 
     fn try_from(number: u32) -> Result<Reference, GrantFault> {
-        if number < 32 {
+        if (number as usize) < ENTRIES {
             Ok(Reference {
                 number: number as u8,
             })

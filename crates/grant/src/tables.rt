@@ -3,7 +3,18 @@ ghost use Rattle.std.specs.Prelude.{◌≡◌};
 ghost use Rattle.grant.specs.Tables.{place, key, handles_of};
 
 use abi::GrantEntry;
-use frame::Domain;
+use frame::{DOMAINS, Domain};
+
+/// How many entries a domain has, with a record beside each.
+pub const ENTRIES: usize = 32;
+
+/// How many handles a domain has.
+pub const HANDLES: usize = 64;
+
+// The entries of all domains, and their handles.
+pub(crate) const ALL_ENTRIES: usize = ENTRIES * DOMAINS as usize;
+
+pub(crate) const ALL_HANDLES: usize = HANDLES * DOMAINS as usize;
 
 /// What the host keeps beside each entry; no guest writes it.
 #[derive(Clone, Copy, Debug, Default, PartialEq, Eq)]
@@ -17,7 +28,9 @@ pub struct Record {
 /// How a frame is mapped.
 #[derive(Clone, Copy, Debug, PartialEq, Eq)]
 pub enum Mode {
+    /// For reading.
     Read,
+    /// For writing, and for reading too.
     Write,
 }
 
@@ -30,26 +43,26 @@ pub struct Mapping {
     pub mode: Mode,
 }
 
-/// Entries and records by 32 * domain + reference, handles by 64 * domain + handle.
+/// Entries and records by ENTRIES * domain + reference, handles by HANDLES * domain + handle.
 #[derive(Drop)]
 pub struct Grants {
-    pub entries: [GrantEntry; 256],
-    pub records: [Record; 256],
-    pub handles: [Option<Mapping>; 512],
+    pub entries: [GrantEntry; ALL_ENTRIES],
+    pub records: [Record; ALL_ENTRIES],
+    pub handles: [Option<Mapping>; ALL_HANDLES],
 }
 
 // Where the entry of a domain and its record stand.
 pub(crate) fn place(owner: u8, reference: u8) -> usize
     ensures { result ≡ place owner reference }
 {
-    32 * owner as usize + reference as usize
+    ENTRIES * owner as usize + reference as usize
 }
 
 // Where a handle of a domain stands.
 pub(crate) fn key(mapper: Domain, handle: u32) -> usize
     ensures { result ≡ key mapper.id handle }
 {
-    64 * mapper.id as usize + handle as usize
+    HANDLES * mapper.id as usize + handle as usize
 }
 
 impl Grants {
@@ -58,6 +71,6 @@ impl Grants {
         ensures { result.now ≡ handles_of mapper.id self.now.handles }
     {
         let start = key(mapper, 0);
-        &self.handles[start..start + 64]
+        &self.handles[start..start + HANDLES]
     }
 }

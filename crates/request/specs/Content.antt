@@ -57,6 +57,6 @@ pub record Asked : Type 0 where
 abbrev pub asked : Request → Asked
 asked q = record { direction = direction_of q; place = place_of q; length = length_of q; id = id_of q; operation = operation_of q; spans = spans_of q }
 
--- the parts that a table holds
+-- the spans that a table holds
 abbrev pub listed : Spans → List Span
 listed p = take p.count p.table

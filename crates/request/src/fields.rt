@@ -7,6 +7,9 @@ use blkif::{SEGMENTS, Segment};
 use ring::RingFault;
 use ringpage::Request;
 
+// The sectors of a frame, of 512 bytes each.
+const SECTORS_OF_FRAME: u8 = 8;
+
 /// Why a request is answered at once, and the segment at which that was met, or 0.
 #[derive(Clone, Copy)]
 pub struct Miss {
@@ -23,14 +26,13 @@ impl From<RingFault> for Miss {
     }
 }
 
-// The first segment that ends before it begins, or past its frame's eight sectors.
+// The first segment that ends before it begins, or past its frame's sectors.
 fn first_bad(segments: &[Segment]) -> Option<usize>
     ensures value { result ≡ position bad_segment segments.now }
     ensures within { IfSome result (λ k. k < length segments.now) }
 {
-    segments
-        .iter()
-        .position(|segment| segment.last < segment.first || segment.last > 7)
+    segments.iter().position(|segment| segment.last < segment.first
+        || segment.last >= SECTORS_OF_FRAME)
 }
 
 // The segments in turn.

@@ -25,20 +25,35 @@ pub enum Layer {
 /// The faults of the layer of rings.
 #[derive(Clone, Copy, Debug, PartialEq, Eq)]
 pub enum RingFault {
+    /// No kind of ring has the number.
     BadKind,
+    /// All connections are taken.
     NoConnection,
+    /// No connection is live under the number.
     NotLive,
+    /// The guest's producer index is out of range.
     BadIndex,
+    /// The device is full, or the connection has two jobs.
     Busy,
+    /// No bay has the number.
     BadBay,
+    /// The ticket that the device has ready is no job's of its bay.
     NoJob,
+    /// The connection to be closed has jobs.
     HasJobs,
+    /// Of a block request: there is no such operation.
     BadOperation,
+    /// Of a block request: it counts no segment, or too many.
     BadCount,
+    /// Of a block request: a segment ends before it begins, or past its frame's sectors.
     BadSegment,
+    /// Of a send: it has flags, or ends past its frame.
     BadSpan,
+    /// Of a request: its order does not fit the device.
     Unfit,
+    /// A fault that the layer of grants met.
     OfGrant(GrantFault),
+    /// A fault that a device met.
     OfDevice(DeviceFault),
 }
 

@@ -17,7 +17,7 @@ pub loop-span-preserved : goal.loop-span-preserved
 loop-span-preserved c =
     let F = c.args.frames.now in
     let guest = c.args.guest in
-    let spans = c.spans-span-items.result.now in
+    let spans = c.as_slice-span-items.result.now in
     let i = c.loop-span.span-index in
     let s = get_or spans i none in
     let rest = drop (i + 1) spans in
@@ -38,14 +38,14 @@ returns c =
     let guest = c.args.guest in
     let G = c.loop-span.grants in
     let j = c.loop-span.job in
-    let done = at_drop_all (pin_all F guest j.count j G) c.spans-span-items.result.now c.loop-span.span-index c.loop-span-test.false in
+    let done = at_drop_all (pin_all F guest j.count j G) c.as_slice-span-items.result.now c.loop-span.span-index c.loop-span-test.false in
     pinned_by F guest (listed c.args.spans.now) c.args.grants.now c.args.job.now _ (Ok tt) G j (sym c.loop-span.invariant.1 ∙ done) refl refl refl
 
 pub returns-in-Err : goal.returns-in-Err
 returns-in-Err c =
     let F = c.args.frames.now in
     let guest = c.args.guest in
-    let spans = c.spans-span-items.result.now in
+    let spans = c.as_slice-span-items.result.now in
     let i = c.loop-span.span-index in
     let s = get_or spans i none in
     let G = c.loop-span.grants in
