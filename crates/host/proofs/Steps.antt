@@ -8,7 +8,7 @@ use Rattle.device.specs.Laws.{Laws}
 use Rattle.event.specs.Pending.{pick, word, dropped}
 use Rattle.event.proofs.Bits.{lowest}
 use Rattle.answer.specs.declared.fault.HostFault.{HostFault}
-use Rattle.answer.specs.declared.fault.HostFault.TheVariants.{InFrame, InEvent}
+use Rattle.answer.specs.declared.fault.HostFault.TheVariants.{OfFrame, OfEvent}
 use Rattle.answer.specs.declared.reply.Answer.{Answer}
 use Rattle.answer.specs.declared.reply.Answer.TheVariants.{Length, Port}
 use Rattle.answer.specs.Parts.{answer_parts}
@@ -28,8 +28,8 @@ picks_pending = record { marked_one = λ w some fits. (lowest w some fits).1 }
 
 -- what a load gives back
 same_reply : (n : ℕ) (buffer : List ℕ) (a : Result Unit HostFault) (v : Result Unit FrameFault) (bytes : List ℕ)
-    → told_with (granting (λ _. Length n) (and_then a (λ _. passed InFrame v))) (after_ok (and_then a (λ _. passed InFrame v)) buffer (λ _. bytes))
-    ≡ either_of a (λ _. record { result = passed_up InFrame (λ _. Length n) v; filled = after_ok v [] (λ _. bytes) }) (λ e. told (Err e))
+    → told_with (granting (λ _. Length n) (and_then a (λ _. passed OfFrame v))) (after_ok (and_then a (λ _. passed OfFrame v)) buffer (λ _. bytes))
+    ≡ either_of a (λ _. record { result = passed_up OfFrame (λ _. Length n) v; filled = after_ok v [] (λ _. bytes) }) (λ e. told (Err e))
 same_reply n buffer (Ok u) (Ok t) bytes = refl
 same_reply n buffer (Ok u) (Err e) bytes = refl
 same_reply n buffer (Err e) v bytes = refl
@@ -91,8 +91,8 @@ module _ {M N : Type 0} where
 
     -- a load of n bytes, into a buffer or into the front of one
     pub kept_loaded : {H : Tables} {m : List ℕ} {x : M} {y : N} {d f offset n : ℕ} (buffer : List ℕ) {r : Result Answer HostFault} {buffer' : List ℕ} → Laws R → Laws S
-        → r ≡ granting (λ _. Length n) (heard (guest_rules H m d) InFrame (load_verdict H d f offset n))
-        → buffer' ≡ after_ok (heard (guest_rules H m d) InFrame (load_verdict H d f offset n)) buffer (λ _. bytes_at (4096 * f + offset) n m)
+        → r ≡ granting (λ _. Length n) (heard (guest_rules H m d) OfFrame (load_verdict H d f offset n))
+        → buffer' ≡ after_ok (heard (guest_rules H m d) OfFrame (load_verdict H d f offset n)) buffer (λ _. bytes_at (4096 * f + offset) n m)
         → Kept R S pick (world_of H m x y) (Load d f offset n) (told_with r buffer') (world_of H m x y)
     unfolding step proceeds
     kept_loaded {H = H} {m = m} {x = x} {y = y} {d = d} {f = f} {offset = offset} {n = n} buffer lr ls answer filled =
@@ -104,7 +104,7 @@ module _ {M N : Type 0} where
 
     -- next
     pub kept_next : {H : Tables} {m : List ℕ} {x : M} {y : N} {d : ℕ} {r : Result Answer HostFault} {H' : Tables} → Laws R → Laws S
-        → GrantedBy {T = Unit} (next_rules H m d) InEvent (Ok tt) (λ _. Port (next_port pick (word H.events d))) H m (λ _. taken_up d H) (λ _. m) r H' m
+        → GrantedBy {T = Unit} (next_rules H m d) OfEvent (Ok tt) (λ _. Port (next_port pick (word H.events d))) H m (λ _. taken_up d H) (λ _. m) r H' m
         → Kept R S pick (world_of H m x y) (Next d) (told r) (world_of H' m x y)
     unfolding step proceeds
     kept_next {H = H} {m = m} {x = x} {y = y} {d = d} lr ls parts =

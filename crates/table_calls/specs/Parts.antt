@@ -7,7 +7,7 @@ use Rattle.frame.specs.declared.fault.FrameFault.{FrameFault}
 use Rattle.grant.specs.Tables.{maps_frame}
 use Rattle.event.specs.Pending.{pick, word, dropped}
 use Rattle.answer.specs.declared.fault.HostFault.{HostFault}
-use Rattle.answer.specs.declared.fault.HostFault.TheVariants.{InFrame}
+use Rattle.answer.specs.declared.fault.HostFault.TheVariants.{OfFrame}
 use Rattle.answer.specs.declared.reply.Answer.{Answer}
 use Rattle.answer.specs.declared.reply.Answer.TheVariants.{Length}
 use Rattle.backend.specs.declared.tables.Tables.{Tables}
@@ -36,8 +36,8 @@ load_verdict H d f offset n = refuse_first (access_rules H.frames (maps_frame H.
 
 -- a part of a frame was copied into the buffer, or the buffer left as it was
 pub record Loaded (H : Tables) (m : List ℕ) (d f offset : ℕ) (buffer : List ℕ) (r : Result Answer HostFault) (buffer' : List ℕ) : Type 0 where
-  pub answer : r ≡ granting (λ _. Length (length buffer)) (heard (guest_rules H m d) InFrame (load_verdict H d f offset (length buffer)))
-  pub filled : buffer' ≡ after_ok (heard (guest_rules H m d) InFrame (load_verdict H d f offset (length buffer))) buffer (λ _. bytes_at (4096 * f + offset) (length buffer) m)
+  pub answer : r ≡ granting (λ _. Length (length buffer)) (heard (guest_rules H m d) OfFrame (load_verdict H d f offset (length buffer)))
+  pub filled : buffer' ≡ after_ok (heard (guest_rules H m d) OfFrame (load_verdict H d f offset (length buffer))) buffer (λ _. bytes_at (4096 * f + offset) (length buffer) m)
 
 -- a refusal leaves the buffer as it was
 abbrev pub Untouched : Result Answer HostFault → List ℕ → List ℕ → Type 0
@@ -46,8 +46,8 @@ Untouched (Err e) before after = after ≡ before
 
 -- n bytes of a frame were copied into the front of the buffer, or the buffer left as it was
 pub record FrontLoaded (H : Tables) (m : List ℕ) (d f offset n : ℕ) (buffer : List ℕ) (r : Result Answer HostFault) (buffer' : List ℕ) : Type 0 where
-  pub answer : r ≡ granting (λ _. Length n) (heard (guest_rules H m d) InFrame (load_verdict H d f offset n))
-  pub filled : take n buffer' ≡ after_ok (heard (guest_rules H m d) InFrame (load_verdict H d f offset n)) (take n buffer) (λ _. bytes_at (4096 * f + offset) n m)
+  pub answer : r ≡ granting (λ _. Length n) (heard (guest_rules H m d) OfFrame (load_verdict H d f offset n))
+  pub filled : take n buffer' ≡ after_ok (heard (guest_rules H m d) OfFrame (load_verdict H d f offset n)) (take n buffer) (λ _. bytes_at (4096 * f + offset) n m)
   pub rest : drop n buffer' ≡ drop n buffer
   pub refused : Untouched r buffer buffer'
 
