@@ -75,6 +75,7 @@ module _ {M N : Type 0} (R : Rules M) (S : Rules N) (pick : ℕ → ℕ) where
       let below : (f : ℕ) → f < H.frames.count → f < w.host.frames.count = λ f h. subst (λ n. f < n) g.count h in
       let above : (f : ℕ) → f < w.host.frames.count → f < H.frames.count = λ f h. subst (λ n. f < n) (sym g.count) h in
       record {
+        frames_stay = g.count;
         pins_are_maps_less_unmaps = λ f h. pins-counted H.frames H.grants b i.books f (omega (arith, i.few, h));
         pinned_keeps_owner = λ f h p. g.owner f p;
         mapped_as_granted = λ d h n l e. granted H.frames H.grants b i.books d h n l e;

@@ -156,6 +156,8 @@ pub record Counted (k : Connection) (n : ConnectionNote) : Type 0 where
 
 -- the law of one step: a is the account before the call, b after it
 pub record Keeps {M N : Type 0} (R : Rules M) (S : Rules N) (pick : ℕ → ℕ) (a b : Account) (s : Step M N) : Type 0 where
+  -- the number of frames stays; the sentences about a frame are of those below it
+  pub frames_stay : s.left.host.frames.count ≡ s.found.host.frames.count
   -- a frame's accepted maps less its accepted unmaps are its pins
   pub pins_are_maps_less_unmaps : (f : ℕ) → f < s.left.host.frames.count
       → pins s.left.host.grants.records f + slice_index b.unmaps f ≡ slice_index b.maps f
