@@ -10,7 +10,7 @@ use ring::RingFault;
 /// The faults of the host itself, and of the layers below it.
 #[derive(Clone, Copy, Debug, PartialEq, Eq)]
 pub enum HostFault {
-    /// The memory has another size than the host's frames.
+    /// The number of frames is not 1 to 256, or the memory has another size than they.
     BadMemory,
     /// The caller is no domain that may make the call.
     BadCaller,

@@ -58,7 +58,7 @@ start_rules n m = (n == 0 || nat_lt 256 n || not (length m == 4096 * n), BadMemo
 unfoldable pub started : ℕ → List ℕ → Result Tables HostFault
 started n m = refuse_first (start_rules n m) (Ok (new_host n))
 
--- the port p is the caller d's end of a live connection
+-- the connection is live, and d is its guest
 abbrev pub guests_end : ℕ → Option Connection → Bool
 guests_end d None = false
 guests_end d (Some k) = k.guest == d

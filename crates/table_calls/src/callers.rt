@@ -19,7 +19,7 @@ pub fn fitting(tables: &Tables, memory: &[u8]) -> Result<(), HostFault>
     Ok(())
 }
 
-/// The domain that calls, if it is one that may call next.
+/// The caller of `next`: a guest or domain 0.
 pub fn domain(tables: &Tables, memory: &[u8], caller: u32) -> Result<Domain, HostFault>
     ensures answer { allowed result ≡ refuse_first (next_rules tables.now memory.now caller) (Ok tt) }
     ensures caller { IfOk result (λ d. d.id ≡ caller) }
