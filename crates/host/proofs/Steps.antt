@@ -15,7 +15,7 @@ use Rattle.answer.specs.Parts.{answer_parts}
 use Rattle.backend.specs.declared.tables.Tables.{Tables}
 use Rattle.law.specs.World.{World, with_events}
 use Rattle.law.specs.Call.{Call, Reply, Load, Next}
-use Rattle.law.specs.Step.{Ends, step, proceeds, told, passed_up, by_verdict, guest_rules, next_rules, next_port}
+use Rattle.law.specs.Step.{Ends, step, proceeds, told, by_verdict, guest_rules, next_rules, next_port}
 use Rattle.law.specs.Run.{Kept}
 use Rattle.law.specs.Law.{Picks}
 use Rattle.law.proofs.Kept.{kept}
@@ -29,7 +29,7 @@ picks_pending = record { marked_one = λ w some fits. (lowest w some fits).1 }
 -- what a load gives back
 same_reply : (n : ℕ) (buffer : List ℕ) (a : Result Unit HostFault) (v : Result Unit FrameFault) (bytes : List ℕ)
     → told_with (granting (λ _. Length n) (and_then a (λ _. passed OfFrame v))) (after_ok (and_then a (λ _. passed OfFrame v)) buffer (λ _. bytes))
-    ≡ either_of a (λ _. record { result = passed_up OfFrame (λ _. Length n) v; filled = after_ok v [] (λ _. bytes) }) (λ e. told (Err e))
+    ≡ either_of a (λ _. record { result = passed OfFrame (granting (λ _. Length n) v); filled = after_ok v [] (λ _. bytes) }) (λ e. told (Err e))
 same_reply n buffer (Ok u) (Ok t) bytes = refl
 same_reply n buffer (Ok u) (Err e) bytes = refl
 same_reply n buffer (Err e) v bytes = refl

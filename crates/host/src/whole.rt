@@ -1,10 +1,10 @@
 // A whole run.
 ghost use Rattle.std.specs.Prelude.{◌≡◌, [], map, IfOk, OnErr};
+ghost use Rattle.rules.specs.Refusal.{granting};
 ghost use Rattle.event.specs.Pending.{pick};
 ghost use Rattle.law.specs.Run.{Ran};
 ghost use Rattle.law.specs.Step.{started};
 ghost use Rattle.host.specs.Calls.{call_of};
-ghost use Rattle.table_calls.specs.Parts.{allowed};
 ghost use Rattle.host.specs.View.{fresh, seen};
 ghost use Rattle.host.specs.Whole.{after_calls};
 
@@ -23,7 +23,7 @@ pub fn run<B: Device, N: Device>(
     net: &mut N,
     calls: &[Call],
 ) -> Result<Host, HostFault>
-    ensures started { allowed result ≡ allowed (started frames memory.old) }
+    ensures started { granting {U = Unit} (λ _. tt) result ≡ granting (λ _. tt) (started frames memory.old) }
     ensures refused { OnErr result ((memory.new ≡ memory.old)
         × (B.Device.meaning block.new ≡ B.Device.meaning block.old)
         × (N.Device.meaning net.new ≡ N.Device.meaning net.old)) }

@@ -2,7 +2,7 @@
 use Rattle.std.proofs.Common.{◌≡◌, ℕ, ◌+◌, ◌*◌, ◌<◌, ◌≤◌, Bool, true, false, cond, not, ◌||◌, eqb, ltb, ◌⊎◌, List, [], ◌∷◌, length, get_or, Some, None, Ok, Err, Result, sym, refl, ap, ◌∙◌, subst, inl, inr}
 use Rattle.std.proofs.lemmas.Bool.{not-false, ltb-true, ltb-false, or_cases}
 use Rattle.rules.specs.Tables.{at}
-use Rattle.rules.specs.Refusal.{Rule, refuse_first, after_ok, either_of}
+use Rattle.rules.specs.Refusal.{Rule, refuse_first, passed, granting, after_ok, either_of}
 use Rattle.rules.proofs.Refusals.{none-held}
 use Rattle.device.specs.Meaning.{Rules}
 use Rattle.frame.specs.Access.{access_rules}
@@ -27,7 +27,7 @@ use Rattle.answer.specs.declared.reply.Answer.TheVariants.{Done, Length, Handle,
 use Rattle.law.specs.World.{World, with_frames, with_grants, with_events, with_host, with_memory}
 use Rattle.law.specs.Call.{Call, Take, Give, Load, Store, Entry, End, Map, Unmap, Send, Next, Connect, Serve, Complete, Disconnect, domain, Reply}
 use Rattle.law.specs.Connect.{connect_verdict, new_number, connected, connected_memory, disconnect_verdict, disconnected}
-use Rattle.law.specs.Step.{Ends, step, proceeds, by_verdict, send_rules, next_port, host_rules, told, passed_up, served_in, completed_in, serving_bay, bay_rules, bay_numbered}
+use Rattle.law.specs.Step.{Ends, step, proceeds, by_verdict, send_rules, next_port, host_rules, told, served_in, completed_in, serving_bay, bay_rules, bay_numbered}
 use Rattle.law.specs.Account.{Account}
 use Rattle.law.specs.Keeps.{Owns, Maps}
 use Rattle.law.proofs.Inv.{Inv, PartIn, no_part}
@@ -93,8 +93,8 @@ module _ {M N : Type 0} (R : Rules M) (S : Rules N) (pick : ℕ → ℕ) (a : Ac
   load-alike d f o n m same = by (refuse_first (access_rules w.host.frames (maps_frame w.host.grants d f) d f o n) (Ok tt)) refl
     where
       by : (r : Result Unit FrameFault) → refuse_first (access_rules w.host.frames (maps_frame w.host.grants d f) d f o n) (Ok tt) ≡ r
-          → Alike {M = M} {N = N} (record { answer = record { result = passed_up OfFrame (λ _. Length n) r; filled = after_ok r [] (λ _. bytes_at (4096 * f + o) n m) }; world = with_memory m w })
-          (record { answer = record { result = passed_up OfFrame (λ _. Length n) r; filled = after_ok r [] (λ _. bytes_at (4096 * f + o) n w.memory) }; world = w })
+          → Alike {M = M} {N = N} (record { answer = record { result = passed OfFrame (granting (λ _. Length n) r); filled = after_ok r [] (λ _. bytes_at (4096 * f + o) n m) }; world = with_memory m w })
+          (record { answer = record { result = passed OfFrame (granting (λ _. Length n) r); filled = after_ok r [] (λ _. bytes_at (4096 * f + o) n w.memory) }; world = w })
       by (Ok t) q =
           let none = (none-held (access_rules w.host.frames (maps_frame w.host.grants d f) d f o n) (Ok tt) t q).0 in
           let exists : f < w.host.frames.count = ltb-true f w.host.frames.count (not-false _ none.0) in
@@ -119,8 +119,8 @@ module _ {M N : Type 0} (R : Rules M) (S : Rules N) (pick : ℕ → ℕ) (a : Ac
           same k.page (page_exists a w.host w.memory h k p) (inr (page-written a w.host w.memory h k p).maps)
 
       by : (b : Bay) → Alike (served_in R S b c (with_memory m w)) (served_in R S b c w)
-      by BlockBay = let l = served_learns R c w.host w.memory m w.bay0 size page in (ap (λ r. told (passed_up OfRing (λ z. z) r)) l.0, l.1, refl)
-      by NetBay = let l = served_learns S c w.host w.memory m w.bay1 size page in (ap (λ r. told (passed_up OfRing (λ z. z) r)) l.0, refl, l.1)
+      by BlockBay = let l = served_learns R c w.host w.memory m w.bay0 size page in (ap (λ r. told (passed OfRing r)) l.0, l.1, refl)
+      by NetBay = let l = served_learns S c w.host w.memory m w.bay1 size page in (ap (λ r. told (passed OfRing r)) l.0, refl, l.1)
 
   -- complete reads the segments of a job, which domain 0 has mapped
   complete-alike : (b : ℕ) (m : List ℕ) → length m ≡ length w.memory → SeenSame (Complete b) m → Alike (proceeds R S pick (with_memory m w) (Complete b)) (proceeds R S pick w (Complete b))
@@ -134,8 +134,8 @@ module _ {M N : Type 0} (R : Rules M) (S : Rules N) (pick : ℕ → ℕ) (a : Ac
           (f.0, (f.1.0, same f.0 f.1.1.0 (inr f.1.1.1)))
 
       in_bay : (v : Bay) → Alike (completed_in R S v (with_memory m w)) (completed_in R S v w)
-      in_bay BlockBay = let l = completed_learns R BlockBay w.host w.memory m w.bay0 size parts in (ap (λ r. told (passed_up OfRing (λ z. z) r)) l.0, l.1, refl)
-      in_bay NetBay = let l = completed_learns S NetBay w.host w.memory m w.bay1 size parts in (ap (λ r. told (passed_up OfRing (λ z. z) r)) l.0, refl, l.1)
+      in_bay BlockBay = let l = completed_learns R BlockBay w.host w.memory m w.bay0 size parts in (ap (λ r. told (passed OfRing r)) l.0, l.1, refl)
+      in_bay NetBay = let l = completed_learns S NetBay w.host w.memory m w.bay1 size parts in (ap (λ r. told (passed OfRing r)) l.0, refl, l.1)
 
       by : (r : Result Unit RingFault) → Alike (either_of r (λ _. completed_in R S (bay_numbered b) (with_memory m w)) (λ e. record { answer = told (Err (OfRing e)); world = with_memory m w })) (either_of r (λ _. completed_in R S (bay_numbered b) w) (λ e. record { answer = told (Err (OfRing e)); world = w }))
       by (Ok t) = in_bay (bay_numbered b)

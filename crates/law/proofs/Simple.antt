@@ -3,7 +3,7 @@ use Rattle.std.proofs.Common.{◌≡◌, ℕ, ◌+◌, ◌-◌, ◌*◌, ◌<◌
 use Rattle.std.proofs.lemmas.List.{get_or-set_same, get_or-set_other}
 use Rattle.std.proofs.lemmas.Bool.{cases_eq, cases_lt, not-false, ltb-true, ltb-false, or_parts, or_cases, both_ways, eqb-false}
 use Rattle.rules.specs.Tables.{at}
-use Rattle.rules.specs.Refusal.{refuse_first, after_ok}
+use Rattle.rules.specs.Refusal.{refuse_first, passed, granting, after_ok}
 use Rattle.rules.proofs.Refusals.{none-held}
 use Rattle.device.specs.Meaning.{Rules}
 use Rattle.frame.specs.Owners.{owner_of, owns, take_rules, give_rules, with_owner}
@@ -28,7 +28,7 @@ use Rattle.answer.specs.declared.reply.Answer.TheVariants.{Done, Length, Handle,
 use Rattle.backend.specs.declared.tables.Tables.{Tables}
 use Rattle.law.specs.World.{World, with_frames, with_grants, with_events, with_host, with_memory}
 use Rattle.law.specs.Call.{Take, Give, Load, Store, Entry, End, Map, Unmap, Send, Next}
-use Rattle.law.specs.Step.{proceeds, told, passed_up, send_rules, guests_end, next_port}
+use Rattle.law.specs.Step.{proceeds, told, send_rules, guests_end, next_port}
 use Rattle.law.specs.Account.{Account, accepted, noted, noted_owner, noted_entry, mapping_noted, mapping_ended}
 use Rattle.law.specs.Keeps.{Writes, LiveEnd}
 use Rattle.law.specs.Law.{Picks}
@@ -139,8 +139,8 @@ module _ {M N : Type 0} (R : Rules M) (S : Rules N) (pick : ℕ → ℕ) (pk : P
   unfolding proceeds noted accepted
   good_load d f o n = loaded (refuse_first (access_rules H.frames (maps_frame H.grants d f) d f o n) (Ok tt))
     where
-      loaded : (r : Result Unit FrameFault) → Good R S pick a (after R S pick a w (Load d f o n) (record { result = passed_up OfFrame (λ _. Length n) r; filled = after_ok r [] (λ _. bytes_at (4096 * f + o) n w.memory) })) w (Load d f o n)
-          (record { answer = record { result = passed_up OfFrame (λ _. Length n) r; filled = after_ok r [] (λ _. bytes_at (4096 * f + o) n w.memory) }; world = w })
+      loaded : (r : Result Unit FrameFault) → Good R S pick a (after R S pick a w (Load d f o n) (record { result = passed OfFrame (granting (λ _. Length n) r); filled = after_ok r [] (λ _. bytes_at (4096 * f + o) n w.memory) })) w (Load d f o n)
+          (record { answer = record { result = passed OfFrame (granting (λ _. Length n) r); filled = after_ok r [] (λ _. bytes_at (4096 * f + o) n w.memory) }; world = w })
       loaded (Ok tt) = good_same R S pick a w (Load d f o n) _ i (λ x e. let z : ◌≡◌ {A = ℕ} 0 1 = cc in omega arith) (λ d' p e z. absurd (let z : ◌≡◌ {A = ℕ} 0 1 = cc in omega arith)) (λ n e. let z : ◌≡◌ {A = ℕ} 0 1 = cc in omega arith)
       loaded (Err e) = good_same R S pick a w (Load d f o n) _ i (λ x e. let z : ◌≡◌ {A = ℕ} 0 1 = cc in omega arith) (λ d' p e z. absurd (let z : ◌≡◌ {A = ℕ} 0 1 = cc in omega arith)) (λ n e. let z : ◌≡◌ {A = ℕ} 0 1 = cc in omega arith)
 

@@ -1,6 +1,6 @@
 -- Each call's step: what it answers and what it leaves.
 use Rattle.std.specs.Prelude.{ℕ, ◌+◌, ◌-◌, ◌*◌, Bool, false, cond, not, ◌||◌, List, [], ◌∷◌, length, Some, None, Ok, Err, Option, Result, ◌==◌, nat_lt}
-use Rattle.rules.specs.Refusal.{Rule, refuse_first, after_ok, either_of}
+use Rattle.rules.specs.Refusal.{Rule, refuse_first, passed, granting, after_ok, either_of}
 use Rattle.device.specs.Meaning.{Rules}
 use Rattle.frame.specs.Domain.{no_domain}
 use Rattle.frame.specs.Owners.{take_rules, give_rules, with_owner}
@@ -86,26 +86,22 @@ serving_bay (Some k) = bay_of k.kind
 abbrev pub told : Result Answer HostFault → Reply
 told r = record { result = r; filled = [] }
 
--- an answer of a layer below, passed up with its fault whole
-abbrev pub passed_up : {T E : Type 0} → (E → HostFault) → (T → Answer) → Result T E → Result Answer HostFault
-passed_up g f r = either_of r (λ t. Ok (f t)) (λ e. Err (g e))
-
 module _ {M N : Type 0} where
   -- a call by rules: refused by the first that holds, with the world as it was, or done
   abbrev pub by_rules : {E : Type 0} → (E → HostFault) → List (Rule E) → World M N → Answer → World M N → Ends M N
   by_rules g rules w a v =
-      record { answer = told (passed_up g (λ _. a) (refuse_first {T = Unit} rules (Ok tt))); world = after_ok (refuse_first {T = Unit} rules (Ok tt)) w (λ _. v) }
+      record { answer = told (passed g (granting (λ _. a) (refuse_first {T = Unit} rules (Ok tt)))); world = after_ok (refuse_first {T = Unit} rules (Ok tt)) w (λ _. v) }
 
   -- a call by a verdict that grants something
   abbrev pub by_verdict : {T E : Type 0} → (E → HostFault) → Result T E → World M N → (T → Answer) → (T → World M N) → Ends M N
-  by_verdict g r w f v = record { answer = told (passed_up g f r); world = after_ok r w v }
+  by_verdict g r w f v = record { answer = told (passed g (granting f r)); world = after_ok r w v }
 
   -- what the device of a bay had part in
   abbrev pub by_bay0 : World M N → Outcome M → Ends M N
-  by_bay0 w o = record { answer = told (passed_up OfRing (λ a. a) o.answer); world = record { host = o.host; memory = o.memory; bay0 = o.device; bay1 = w.bay1 } }
+  by_bay0 w o = record { answer = told (passed OfRing o.answer); world = record { host = o.host; memory = o.memory; bay0 = o.device; bay1 = w.bay1 } }
 
   abbrev pub by_bay1 : World M N → Outcome N → Ends M N
-  by_bay1 w o = record { answer = told (passed_up OfRing (λ a. a) o.answer); world = record { host = o.host; memory = o.memory; bay0 = w.bay0; bay1 = o.device } }
+  by_bay1 w o = record { answer = told (passed OfRing o.answer); world = record { host = o.host; memory = o.memory; bay0 = w.bay0; bay1 = o.device } }
 
 module _ {M N : Type 0} (R : Rules M) (S : Rules N) where
   abbrev pub served_in : Bay → ℕ → World M N → Ends M N
@@ -127,7 +123,7 @@ module _ {M N : Type 0} (R : Rules M) (S : Rules N) (pick : ℕ → ℕ) where
       (with_host (with_frames (with_owner f None w.host.frames) w.host) w)
   proceeds w (Load d f o n) =
       let r : Result Unit FrameFault = refuse_first (access_rules w.host.frames (maps_frame w.host.grants d f) d f o n) (Ok tt) in
-      record { answer = record { result = passed_up OfFrame (λ _. Length n) r; filled = after_ok r [] (λ _. bytes_at (4096 * f + o) n w.memory) }; world = w }
+      record { answer = record { result = passed OfFrame (granting (λ _. Length n) r); filled = after_ok r [] (λ _. bytes_at (4096 * f + o) n w.memory) }; world = w }
   proceeds w (Store d f o bs) =
       by_rules OfFrame (access_rules w.host.frames (writes_frame w.host.grants d f) d f o (length bs)) w (Length (length bs))
       (with_memory (placed (4096 * f + o) bs w.memory) w)

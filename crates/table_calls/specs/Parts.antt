@@ -14,11 +14,6 @@ use Rattle.backend.specs.declared.tables.Tables.{Tables}
 use Rattle.law.specs.World.{with_events}
 use Rattle.law.specs.Step.{guest_rules, next_port}
 
--- whether there is a refusal, and which
-abbrev pub allowed : {T E : Type 0} → Result T E → Result Unit E
-allowed (Ok t) = Ok tt
-allowed (Err e) = Err e
-
 -- the host's own rules first, then what a layer below says
 abbrev pub heard : {T E : Type 0} → List (Rule HostFault) → (E → HostFault) → Result T E → Result T HostFault
 heard rules g verdict = and_then (refuse_first {T = Unit} rules (Ok tt)) (λ _. passed g verdict)

@@ -1,12 +1,12 @@
 // Events: sent by guests, taken up by any domain.
 ghost use Rattle.std.specs.Prelude.{◌≡◌, IfOk};
-ghost use Rattle.rules.specs.Refusal.{refuse_first};
+ghost use Rattle.rules.specs.Refusal.{refuse_first, granting};
 ghost use Rattle.event.specs.Pending.{pick, word, marked};
 ghost use Rattle.answer.specs.declared.fault.HostFault.TheVariants.{OfEvent};
 ghost use Rattle.answer.specs.declared.reply.Answer.TheVariants.{Done, Port as AtPort};
 ghost use Rattle.law.specs.World.{with_events};
 ghost use Rattle.law.specs.Step.{guest_rules, next_rules, send_rules, next_port};
-ghost use Rattle.table_calls.specs.Parts.{allowed, GrantedBy, taken_up};
+ghost use Rattle.table_calls.specs.Parts.{GrantedBy, taken_up};
 
 use crate::callers::{domain, guest};
 use answer::{Answer, HostFault};
@@ -16,7 +16,7 @@ use frame::Domain;
 
 // The port, if it is the guest's end of a live connection.
 fn may_send(tables: &Tables, guest: Domain, port: u32) -> Result<Port, EventFault>
-    ensures answer { allowed result ≡ refuse_first (send_rules tables.now guest.id port) (Ok tt) }
+    ensures answer { granting {U = Unit} (λ _. tt) result ≡ refuse_first (send_rules tables.now guest.id port) (Ok tt) }
     ensures port { IfOk result (λ p. p.number ≡ port) }
 {
     let number = port.checked_sub(1).ok_or(EventFault::BadPort)?;

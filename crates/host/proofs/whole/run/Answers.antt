@@ -1,11 +1,11 @@
 use Rattle.std.proofs.Common.{List, [], ◌∷◌, map, get_or, take, Ok, sym, ap, ◌∙◌, subst}
 use Rattle.std.proofs.lemmas.List.{map-append, take_more, take_all}
+use Rattle.rules.specs.Refusal.{granting}
 use Rattle.event.specs.Pending.{pick}
 use Rattle.backend.specs.declared.tables.Tables.{Tables}
 use Rattle.law.specs.Call.{Call}
 use Rattle.law.specs.Run.{Ran}
 use Rattle.host.specs.Calls.{call_of}
-use Rattle.table_calls.specs.Parts.{allowed}
 use Rattle.host.specs.View.{fresh, seen}
 use Rattle.host.specs.Whole.{after_calls}
 use Rattle.host.specs.declared.call.Call.TheVariants.{Take}
@@ -45,7 +45,7 @@ returns g c =
     let w = seen c.loop-call.host c.loop-call.memory (b.meaning c.loop-call.block) (n.meaning c.loop-call.net) in
     let all = take_all c.loop-call.call-index c.args.calls.now c.loop-call-test.false in
     record {
-      started = ap allowed c.in_ok-host.ensures;
+      started = ap (granting {U = Unit} (λ _. tt)) c.in_ok-host.ensures;
       refused = tt;
       steps = c.loop-call.invariant.0 ∙ ap (λ xs. after_calls b.rules n.rules pick u (map call_of xs)) all;
       lawful = λ p q. subst (λ xs. Ran b.rules n.rules pick u (map call_of xs) w) all (c.loop-call.invariant.1 p q);
