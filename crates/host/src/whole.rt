@@ -2,11 +2,10 @@
 ghost use Rattle.std.specs.Prelude.{◌≡◌, [], map, IfOk, OnErr};
 ghost use Rattle.rules.specs.Refusal.{granting};
 ghost use Rattle.event.specs.Pending.{pick};
-ghost use Rattle.law.specs.Run.{Ran};
+ghost use Rattle.law.specs.Run.{after_calls, Ran};
 ghost use Rattle.law.specs.Step.{started};
 ghost use Rattle.host.specs.Calls.{call_of};
 ghost use Rattle.host.specs.View.{fresh, seen};
-ghost use Rattle.host.specs.Whole.{after_calls};
 
 use crate::call::Call;
 use crate::state::Host;

@@ -4,10 +4,9 @@ use Rattle.rules.specs.Refusal.{granting}
 use Rattle.event.specs.Pending.{pick}
 use Rattle.backend.specs.declared.tables.Tables.{Tables}
 use Rattle.law.specs.Call.{Call}
-use Rattle.law.specs.Run.{Ran}
+use Rattle.law.specs.Run.{after_calls, Ran}
 use Rattle.host.specs.Calls.{call_of}
 use Rattle.host.specs.View.{fresh, seen}
-use Rattle.host.specs.Whole.{after_calls}
 use Rattle.host.specs.declared.call.Call.TheVariants.{Take}
 use Rattle.host.proofs.Running.{is_new, after_more, ran_none, ran_more}
 use Rattle.host.proofs.whole.run.Goals as goal
