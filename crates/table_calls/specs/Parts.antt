@@ -1,5 +1,5 @@
 -- What a call on the tables answers and leaves, by what decides it.
-use Rattle.std.specs.Prelude.{◌≡◌, ℕ, ◌+◌, ◌*◌, cond, List, length, take, drop, Ok, Err, Result, ◌==◌}
+use Rattle.std.specs.Prelude.{◌≡◌, ℕ, ◌+◌, ◌*◌, cond, List, length, Ok, Err, Result, ◌==◌}
 use Rattle.rules.specs.Refusal.{Rule, refuse_first, and_then, passed, granting, after_ok}
 use Rattle.frame.specs.Access.{access_rules}
 use Rattle.frame.specs.Memory.{bytes_at}
@@ -38,13 +38,6 @@ pub record Loaded (H : Tables) (m : List ℕ) (d f offset : ℕ) (buffer : List 
 abbrev pub Untouched : Result Answer HostFault → List ℕ → List ℕ → Type 0
 Untouched (Ok a) before after = Unit {0}
 Untouched (Err e) before after = after ≡ before
-
--- n bytes of a frame were copied into the front of the buffer, or the buffer left as it was
-pub record FrontLoaded (H : Tables) (m : List ℕ) (d f offset n : ℕ) (buffer : List ℕ) (r : Result Answer HostFault) (buffer' : List ℕ) : Type 0 where
-  pub answer : r ≡ granting (λ _. Length n) (heard (guest_rules H m d) OfFrame (load_verdict H d f offset n))
-  pub filled : take n buffer' ≡ after_ok (heard (guest_rules H m d) OfFrame (load_verdict H d f offset n)) (take n buffer) (λ _. bytes_at (4096 * f + offset) n m)
-  pub rest : drop n buffer' ≡ drop n buffer
-  pub refused : Untouched r buffer buffer'
 
 -- the port that is picked of the domain d's is pending no more
 abbrev pub taken_up : ℕ → Tables → Tables

@@ -9,12 +9,12 @@ ghost use Rattle.answer.specs.declared.fault.HostFault.TheVariants.{OfFrame};
 ghost use Rattle.answer.specs.declared.reply.Answer.TheVariants.{Done, Length};
 ghost use Rattle.law.specs.World.{with_frames};
 ghost use Rattle.law.specs.Step.{guest_rules};
-ghost use Rattle.table_calls.specs.Parts.{heard, load_verdict, GrantedBy, Loaded, FrontLoaded};
+ghost use Rattle.table_calls.specs.Parts.{heard, load_verdict, GrantedBy, Loaded};
 
 use crate::callers::guest;
 use answer::{Answer, HostFault};
 use backend::Tables;
-use frame::{FRAME_SIZE, read_part, write_part, zero_frame};
+use frame::{read_part, write_part, zero_frame};
 
 /// A guest takes a frame: its bytes become 0.
 pub fn take(
@@ -81,23 +81,6 @@ pub fn load(
     may_load(tables, memory, caller, frame, offset, buffer.len())?;
     read_part(memory, frame, offset, buffer)?;
     Ok(Answer::Length(buffer.len() as u32))
-}
-
-/// Copies such a part into the front of the buffer.
-pub fn load_front(
-    tables: &Tables,
-    memory: &[u8],
-    caller: u32,
-    frame: u32,
-    offset: u32,
-    length: u32,
-    buffer: &mut [u8; FRAME_SIZE],
-) -> Result<Answer, HostFault>
-    ensures { FrontLoaded tables.now memory.now caller frame offset length buffer.old result buffer.new }
-{
-    may_load(tables, memory, caller, frame, offset, length as usize)?;
-    read_part(memory, frame, offset, &mut buffer[0..length as usize])?;
-    Ok(Answer::Length(length))
 }
 
 /// Copies bytes into a part of a frame that the guest owns or has mapped for writing.
