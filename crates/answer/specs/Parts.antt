@@ -7,41 +7,41 @@ use Rattle.grant.specs.Fault.{fault_number as grant_fault_number}
 use Rattle.event.specs.Fault.{fault_number as event_fault_number}
 use Rattle.ring.specs.Fault.{fault_number as ring_fault_number, layer_of}
 use Rattle.ring.specs.declared.fault.Layer.{Layer as RingsLayer}
-use Rattle.ring.specs.declared.fault.Layer.TheVariants.{InGrant as InGrantLayer, InDevice as InDeviceLayer, InRing as InRingLayer}
+use Rattle.ring.specs.declared.fault.Layer.TheVariants.{InGrant as RingsInGrant, InDevice as RingsInDevice, InRing as RingsInRing}
 use Rattle.ring.specs.declared.fault.RingFault.{RingFault}
 use Rattle.answer.specs.declared.fault.HostFault.{HostFault}
-use Rattle.answer.specs.declared.fault.HostFault.TheVariants.{BadMemory, BadCaller, InFrame, InGrant, InEvent, InRing}
+use Rattle.answer.specs.declared.fault.HostFault.TheVariants.{BadMemory, BadCaller, OfFrame, OfGrant, OfEvent, OfRing}
 use Rattle.answer.specs.declared.reply.Answer.{Answer}
 use Rattle.answer.specs.declared.reply.Answer.TheVariants.{Done, Length, Handle, Port, Connected, Idle, HandedOver, AnsweredNow, Completed}
 use Rattle.answer.specs.declared.parts.Layer.{Layer}
-use Rattle.answer.specs.declared.parts.Layer.TheVariants.{NoLayer, OfHost, OfFrame, OfGrant, OfEvent, OfDevice, OfRing}
+use Rattle.answer.specs.declared.parts.Layer.TheVariants.{NoLayer, InHost, InFrame, InGrant, InEvent, InDevice, InRing}
 use Rattle.answer.specs.declared.parts.AnswerParts.{AnswerParts}
 
 -- a fault met below keeps its number
 abbrev pub fault_number : HostFault → ℤ
 fault_number BadMemory = grant_number BadVirtAddr
 fault_number BadCaller = grant_number BadDomain
-fault_number (InFrame e) = frame_fault_number e
-fault_number (InGrant e) = grant_fault_number e
-fault_number (InEvent e) = event_fault_number e
-fault_number (InRing e) = ring_fault_number e
+fault_number (OfFrame e) = frame_fault_number e
+fault_number (OfGrant e) = grant_fault_number e
+fault_number (OfEvent e) = event_fault_number e
+fault_number (OfRing e) = ring_fault_number e
 
 abbrev pub of_ring : RingsLayer → Layer
-of_ring InGrantLayer = OfGrant
-of_ring InDeviceLayer = OfDevice
-of_ring InRingLayer = OfRing
+of_ring RingsInGrant = InGrant
+of_ring RingsInDevice = InDevice
+of_ring RingsInRing = InRing
 
 abbrev pub ring_layer : RingFault → Layer
 ring_layer f = of_ring (layer_of f)
 
 -- and its layer
 abbrev pub fault_layer : HostFault → Layer
-fault_layer BadMemory = OfHost
-fault_layer BadCaller = OfHost
-fault_layer (InFrame e) = OfFrame
-fault_layer (InGrant e) = OfGrant
-fault_layer (InEvent e) = OfEvent
-fault_layer (InRing e) = ring_layer e
+fault_layer BadMemory = InHost
+fault_layer BadCaller = InHost
+fault_layer (OfFrame e) = InFrame
+fault_layer (OfGrant e) = InGrant
+fault_layer (OfEvent e) = InEvent
+fault_layer (OfRing e) = ring_layer e
 
 -- where nothing else is said: no layer, no detail, place 0
 abbrev pub plain : ℕ → AnswerParts

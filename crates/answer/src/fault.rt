@@ -1,6 +1,6 @@
 // Why the host refuses a call. Faults met below are carried whole.
 ghost use Rattle.std.specs.Prelude.{◌≡◌};
-ghost use Rattle.answer.specs.declared.fault.HostFault.TheVariants.{InFrame, InGrant, InEvent, InRing};
+ghost use Rattle.answer.specs.declared.fault.HostFault.TheVariants.{OfFrame, OfGrant, OfEvent, OfRing};
 
 use event::EventFault;
 use frame::FrameFault;
@@ -10,44 +10,48 @@ use ring::RingFault;
 /// The faults of the host itself, and of the layers below it.
 #[derive(Clone, Copy, Debug, PartialEq, Eq)]
 pub enum HostFault {
-    /// The memory has another size than the host's frames.
+    /// The number of frames is not 1 to 256, or the memory has another size than they.
     BadMemory,
     /// The caller is no domain that may make the call.
     BadCaller,
-    InFrame(FrameFault),
-    InGrant(GrantFault),
-    InEvent(EventFault),
-    InRing(RingFault),
+    /// A fault of the layer of frames.
+    OfFrame(FrameFault),
+    /// A fault of the layer of grants.
+    OfGrant(GrantFault),
+    /// A fault of the layer of events.
+    OfEvent(EventFault),
+    /// A fault of the layer of rings, which may carry a grant's or a device's.
+    OfRing(RingFault),
 }
 
 impl From<FrameFault> for HostFault {
-    ghost from_gives = { λ e r. r ≡ InFrame e };
+    ghost from_gives = { λ e r. r ≡ OfFrame e };
 
     fn from(e: FrameFault) -> HostFault {
-        HostFault::InFrame(e)
+        HostFault::OfFrame(e)
     }
 }
 
 impl From<GrantFault> for HostFault {
-    ghost from_gives = { λ e r. r ≡ InGrant e };
+    ghost from_gives = { λ e r. r ≡ OfGrant e };
 
     fn from(e: GrantFault) -> HostFault {
-        HostFault::InGrant(e)
+        HostFault::OfGrant(e)
     }
 }
 
 impl From<EventFault> for HostFault {
-    ghost from_gives = { λ e r. r ≡ InEvent e };
+    ghost from_gives = { λ e r. r ≡ OfEvent e };
 
     fn from(e: EventFault) -> HostFault {
-        HostFault::InEvent(e)
+        HostFault::OfEvent(e)
     }
 }
 
 impl From<RingFault> for HostFault {
-    ghost from_gives = { λ e r. r ≡ InRing e };
+    ghost from_gives = { λ e r. r ≡ OfRing e };
 
     fn from(e: RingFault) -> HostFault {
-        HostFault::InRing(e)
+        HostFault::OfRing(e)
     }
 }

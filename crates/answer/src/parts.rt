@@ -11,12 +11,12 @@ use ring::Layer as RingLayer;
 #[derive(Clone, Copy, Debug, PartialEq, Eq)]
 pub enum Layer {
     NoLayer,
-    OfHost,
-    OfFrame,
-    OfGrant,
-    OfEvent,
-    OfDevice,
-    OfRing,
+    InHost,
+    InFrame,
+    InGrant,
+    InEvent,
+    InDevice,
+    InRing,
 }
 
 /// The four parts of an answer: the answer itself, and where something was refused the layer, the number and the
@@ -34,9 +34,9 @@ impl From<RingLayer> for Layer {
 
     fn from(layer: RingLayer) -> Layer {
         match layer {
-            RingLayer::InGrant => Layer::OfGrant,
-            RingLayer::InDevice => Layer::OfDevice,
-            RingLayer::InRing => Layer::OfRing,
+            RingLayer::InGrant => Layer::InGrant,
+            RingLayer::InDevice => Layer::InDevice,
+            RingLayer::InRing => Layer::InRing,
         }
     }
 }
@@ -49,10 +49,10 @@ impl HostFault {
         match self {
             HostFault::BadMemory => GrantStatus::BadVirtAddr.number(),
             HostFault::BadCaller => GrantStatus::BadDomain.number(),
-            HostFault::InFrame(fault) => fault.number(),
-            HostFault::InGrant(fault) => fault.number(),
-            HostFault::InEvent(fault) => fault.number(),
-            HostFault::InRing(fault) => fault.number(),
+            HostFault::OfFrame(fault) => fault.number(),
+            HostFault::OfGrant(fault) => fault.number(),
+            HostFault::OfEvent(fault) => fault.number(),
+            HostFault::OfRing(fault) => fault.number(),
         }
     }
 
@@ -61,11 +61,11 @@ impl HostFault {
         ensures { result ≡ fault_layer self }
     {
         match self {
-            HostFault::BadMemory | HostFault::BadCaller => Layer::OfHost,
-            HostFault::InFrame(_) => Layer::OfFrame,
-            HostFault::InGrant(_) => Layer::OfGrant,
-            HostFault::InEvent(_) => Layer::OfEvent,
-            HostFault::InRing(fault) => Layer::from(fault.layer()),
+            HostFault::BadMemory | HostFault::BadCaller => Layer::InHost,
+            HostFault::OfFrame(_) => Layer::InFrame,
+            HostFault::OfGrant(_) => Layer::InGrant,
+            HostFault::OfEvent(_) => Layer::InEvent,
+            HostFault::OfRing(fault) => Layer::from(fault.layer()),
         }
     }
 }

@@ -21,20 +21,6 @@ use request::{Checked, Miss, check};
 use ring::RingFault;
 use ringpage::Request;
 
-// The request is answered at once, and the answer says why.
-fn answer_now(tables: &mut Tables, memory: &mut [u8], token: Consumed, miss: Miss) -> Answer
-    ensures answer { result ≡ AnsweredNow miss }
-    ensures after { Answered token.connection token.id token.operation (status_of miss.fault) tables.old memory.old tables.new memory.new }
-{
-    token.answer(
-        &mut tables.rings,
-        &mut tables.events,
-        memory,
-        miss.fault.status(),
-    );
-    Answer::AnsweredNow(miss)
-}
-
 // A request that was taken off its ring, with its connection as it was found and the ticket that is free for it. It
 // holds the consumed request, so it has to be spent.
 struct Taken<'a> {
@@ -47,6 +33,26 @@ struct Taken<'a> {
 }
 
 impl<'a> Taken<'a> {
+    // The request is answered at once, and the answer says why.
+    fn refuse(self, tables: &mut Tables, memory: &mut [u8], miss: Miss) -> Answer
+        ensures answer { result ≡ AnsweredNow miss }
+        ensures after { Answered self.entry.token.connection self.entry.token.id self.entry.token.operation (status_of miss.fault) tables.old memory.old tables.new memory.new }
+    {
+        let Taken {
+            token,
+            connection: _,
+            request: _,
+            ticket: _,
+        } = self;
+        token.answer(
+            &mut tables.rings,
+            &mut tables.events,
+            memory,
+            miss.fault.status(),
+        );
+        Answer::AnsweredNow(miss)
+    }
+
     // The segments are mapped, those of the job: the device takes the order, or they are unmapped again and the
     // request is answered at once.
     fn hand_over<D: Device>(
@@ -63,20 +69,20 @@ impl<'a> Taken<'a> {
         ensures { Leaves (handed_over D.rules self.entry.token.connection (consumed self.entry.connection.now) self.entry.request.now (asked_by checked.now) (all_mapped job.old tables.old.grants) tables.old memory.old (D.meaning device.old)) (Ok result) tables.new memory.new (D.meaning device.new) }
     {
         let order = order_for(self.ticket, checked);
-        let Taken {
-            token,
-            connection: _,
-            request: _,
-            ticket,
-        } = self;
         match device.accept(order) {
             Ok(()) => {
+                let Taken {
+                    token,
+                    connection: _,
+                    request: _,
+                    ticket,
+                } = self;
                 token.hand_over(&mut tables.rings, ticket, job);
                 Answer::HandedOver
             }
             Err(fault) => {
                 unpin_segments(&mut tables.grants, job);
-                answer_now(tables, memory, token, RingFault::from(fault).into())
+                self.refuse(tables, memory, RingFault::from(fault).into())
             }
         }
     }
@@ -106,15 +112,7 @@ impl<'a> Taken<'a> {
         );
         match pinned {
             Ok(()) => self.hand_over(tables, memory, device, checked, &mut job),
-            Err(miss) => {
-                let Taken {
-                    token,
-                    connection: _,
-                    request: _,
-                    ticket: _,
-                } = self;
-                answer_now(tables, memory, token, miss)
-            }
+            Err(miss) => self.refuse(tables, memory, miss),
         }
     }
 
@@ -126,15 +124,7 @@ impl<'a> Taken<'a> {
     {
         match check(self.request, device) {
             Ok(checked) => self.map_segments(tables, memory, device, &checked),
-            Err(miss) => {
-                let Taken {
-                    token,
-                    connection: _,
-                    request: _,
-                    ticket: _,
-                } = self;
-                answer_now(tables, memory, token, miss)
-            }
+            Err(miss) => self.refuse(tables, memory, miss),
         }
     }
 }

@@ -6,9 +6,8 @@ use Rattle.backend.specs.declared.tables.Tables.{Tables}
 use Rattle.law.specs.World.{World, new_host}
 use Rattle.law.specs.Call.{Call, Reply}
 use Rattle.law.specs.Step.{step, started, start_rules}
-use Rattle.law.specs.Run.{Starts, Reaches, Lawful, Kept, Ran, AtOnce, calls_of}
+use Rattle.law.specs.Run.{Starts, Reaches, Lawful, Kept, Ran, AtOnce, after_calls, calls_of}
 use Rattle.law.proofs.Kept.{at_once}
-use Rattle.host.specs.Whole.{after_calls}
 
 -- the tables that start gives are a new host's
 pub is_new : (n : ℕ) (m : List ℕ) (H : Tables) → started n m ≡ Ok H → H ≡ new_host n

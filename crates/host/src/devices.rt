@@ -1,11 +1,12 @@
 // The calls that a device has part in. The whole machine is lent to each.
 ghost use Rattle.std.specs.Prelude.{◌≡◌};
+ghost use Rattle.rules.specs.Refusal.{passed};
 ghost use Rattle.event.specs.Pending.{pick};
 ghost use Rattle.connection.specs.Tables.{connection_at};
-ghost use Rattle.answer.specs.declared.fault.HostFault.TheVariants.{InRing};
+ghost use Rattle.answer.specs.declared.fault.HostFault.TheVariants.{OfRing};
 ghost use Rattle.law.specs.Call.{Serve, Complete};
 ghost use Rattle.law.specs.Run.{Kept};
-ghost use Rattle.law.specs.Step.{told, passed_up, serving_bay};
+ghost use Rattle.law.specs.Step.{told, serving_bay};
 ghost use Rattle.host.specs.View.{seen};
 
 use crate::state::Host;
@@ -17,7 +18,7 @@ use table_calls::callers::fitting;
 
 // A back end's answer, as the host passes it up.
 fn passed_up(answer: Result<Answer, RingFault>) -> Result<Answer, HostFault>
-    ensures { result ≡ passed_up InRing (λ a. a) answer }
+    ensures { result ≡ passed OfRing answer }
 {
     Ok(answer?)
 }

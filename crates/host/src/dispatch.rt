@@ -9,7 +9,6 @@ use crate::state::Host;
 use answer::{Answer, HostFault};
 use device::Device;
 use frame::FRAME_SIZE;
-use table_calls::frames;
 
 impl Host {
     /// Makes one call. A load fills the front of the buffer; nothing else of it is touched.
@@ -35,7 +34,15 @@ impl Host {
                 frame,
                 offset,
                 length,
-            } => frames::load_front(&self.tables, memory, caller, frame, offset, length, buffer),
+            } => {
+                if length as usize > FRAME_SIZE {
+                    // More than a frame is refused, and alike at any length: one byte more stands for all.
+                    let past = &mut [0u8; FRAME_SIZE + 1];
+                    return self.load(memory, block, net, caller, frame, offset, past);
+                }
+                let front = &mut buffer[0..length as usize];
+                self.load(memory, block, net, caller, frame, offset, front)
+            }
             Call::Store {
                 caller,
                 frame,

@@ -1,12 +1,12 @@
 // A whole run.
-ghost use Rattle.std.specs.Prelude.{◌≡◌, [], map, IfOk, OnErr};
+ghost use Rattle.std.specs.Prelude.{◌≡◌, [], map, Err, IfOk, IfErr, OnErr};
+ghost use Rattle.rules.specs.Refusal.{granting};
 ghost use Rattle.event.specs.Pending.{pick};
-ghost use Rattle.law.specs.Run.{Ran};
+ghost use Rattle.answer.specs.Parts.{answer_parts};
+ghost use Rattle.law.specs.Run.{after_calls, Ran};
 ghost use Rattle.law.specs.Step.{started};
 ghost use Rattle.host.specs.Calls.{call_of};
-ghost use Rattle.table_calls.specs.Parts.{allowed};
-ghost use Rattle.host.specs.View.{fresh, seen};
-ghost use Rattle.host.specs.Whole.{after_calls};
+ghost use Rattle.host.specs.View.{fresh, seen, start_refused};
 
 use crate::call::Call;
 use crate::state::Host;
@@ -23,7 +23,8 @@ pub fn run<B: Device, N: Device>(
     net: &mut N,
     calls: &[Call],
 ) -> Result<Host, HostFault>
-    ensures started { allowed result ≡ allowed (started frames memory.old) }
+    ensures started { granting {U = Unit} (λ _. tt) result ≡ granting (λ _. tt) (started frames memory.old) }
+    ensures parts { IfErr result (λ f. answer_parts (Err f) ≡ start_refused) }
     ensures refused { OnErr result ((memory.new ≡ memory.old)
         × (B.Device.meaning block.new ≡ B.Device.meaning block.old)
         × (N.Device.meaning net.new ≡ N.Device.meaning net.old)) }

@@ -25,7 +25,7 @@ use Rattle.connection.specs.declared.tables.Connection.{Connection}
 use Rattle.backend.specs.Respond.{port_of}
 use Rattle.backend.specs.declared.tables.Tables.{Tables}
 use Rattle.answer.specs.declared.fault.HostFault.{HostFault}
-use Rattle.answer.specs.declared.fault.HostFault.TheVariants.{InRing}
+use Rattle.answer.specs.declared.fault.HostFault.TheVariants.{OfRing}
 use Rattle.answer.specs.declared.reply.Answer.{Answer}
 use Rattle.answer.specs.declared.reply.Answer.TheVariants.{Done, Connected}
 use Rattle.law.specs.World.{World, with_host, with_memory}
@@ -49,7 +49,7 @@ passed_ok g (Ok x) t e = cc
 passed_ok g (Err x) t e = absurd (let z : ◌≡◌ {A = ℕ} 0 1 = cc in omega arith)
 
 -- connect is never refused by a device
-connect_unbroken : (a b : Bool) (r : Result Grant GrantFault) (e : RingFault) → refuse_first ((a, BadKind) ∷ (b, NoConnection) ∷ []) (passed OfGrant r) ≡ Err e → Unbroken (InRing e)
+connect_unbroken : (a b : Bool) (r : Result Grant GrantFault) (e : RingFault) → refuse_first ((a, BadKind) ∷ (b, NoConnection) ∷ []) (passed OfGrant r) ≡ Err e → Unbroken (OfRing e)
 connect_unbroken true b r e q x z = let z : ◌≡◌ {A = ℕ} 0 1 = cc in omega arith
 connect_unbroken false true r e q x z = let z : ◌≡◌ {A = ℕ} 0 1 = cc in omega arith
 connect_unbroken false false (Ok g) e q x z = let z : ◌≡◌ {A = ℕ} 0 1 = cc in omega arith
@@ -147,14 +147,14 @@ module _ {M N : Type 0} (R : Rules M) (S : Rules N) (pick : ℕ → ℕ) (a : Ac
 
   pub good_connect : (d kind reference : ℕ) → 0 < d → d < 8 → Good R S pick a (after R S pick a w (Connect d kind reference) (proceeds R S pick w (Connect d kind reference)).answer) w (Connect d kind reference) (proceeds R S pick w (Connect d kind reference))
   unfolding proceeds accepted account-with note-with number
-  good_connect d kind reference guest below = good_by R S pick a w (Connect d kind reference) InRing (connect_verdict H d kind reference) (λ _. Connected (new_number H))
+  good_connect d kind reference guest below = good_by R S pick a w (Connect d kind reference) OfRing (connect_verdict H d kind reference) (λ _. Connected (new_number H))
       (λ g. with_memory (connected_memory g w.memory) (with_host (connected d kind g H) w)) i
       (λ g q. subst (λ (b : Account). Good R S pick a b w (Connect d kind reference) (record { answer = record { result = Ok (Connected (new_number H)); filled = [] }; world = with_memory (connected_memory g w.memory) (with_host (connected d kind g H) w) }))
       (sym (account-same d kind reference guest below g q)) (connected-good d kind reference guest below g q))
       (λ e q. connect_unbroken (not (is_some (kind_numbered kind))) (not (is_some (free_connection H.rings.connections))) (map_verdict H.frames H.grants 0 d reference 1) e q)
 
   -- disconnect is never refused by a device
-  disconnect-unbroken : (o : Option Connection) (b : Bool) (e : RingFault) → if_some o (Err NotLive) (λ k. refuse_first ((b, HasJobs) ∷ []) (Ok k)) ≡ Err e → Unbroken (InRing e)
+  disconnect-unbroken : (o : Option Connection) (b : Bool) (e : RingFault) → if_some o (Err NotLive) (λ k. refuse_first ((b, HasJobs) ∷ []) (Ok k)) ≡ Err e → Unbroken (OfRing e)
   disconnect-unbroken None b e q x z = let z : ◌≡◌ {A = ℕ} 0 1 = cc in omega arith
   disconnect-unbroken (Some k) true e q x z = let z : ◌≡◌ {A = ℕ} 0 1 = cc in omega arith
   disconnect-unbroken (Some k) false e q x z = let z : ◌≡◌ {A = ℕ} 0 1 = cc in omega arith
@@ -223,7 +223,7 @@ module _ {M N : Type 0} (R : Rules M) (S : Rules N) (pick : ℕ → ℕ) (a : Ac
 
   pub good_disconnect : (c : ℕ) → Good R S pick a (after R S pick a w (Disconnect c) (proceeds R S pick w (Disconnect c)).answer) w (Disconnect c) (proceeds R S pick w (Disconnect c))
   unfolding proceeds accepted
-  good_disconnect c = good_by R S pick a w (Disconnect c) InRing (disconnect_verdict H c) (λ _. Done)
+  good_disconnect c = good_by R S pick a w (Disconnect c) OfRing (disconnect_verdict H c) (λ _. Done)
       (λ k. with_host (disconnected c k H) w) i
       (λ k q. subst (λ (b : Account). Good R S pick a b w (Disconnect c) (record { answer = record { result = Ok Done; filled = [] }; world = with_host (disconnected c k H) w }))
       (sym (disconnected-account c k q)) (disconnected-good c k q))

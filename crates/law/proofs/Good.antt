@@ -10,7 +10,7 @@ use Rattle.event.specs.Pending.{word, bit}
 use Rattle.ringpage.specs.declared.slot.Request.{Request}
 use Rattle.ring.specs.declared.fault.RingFault.TheVariants.{OfDevice}
 use Rattle.answer.specs.declared.fault.HostFault.{HostFault}
-use Rattle.answer.specs.declared.fault.HostFault.TheVariants.{InRing}
+use Rattle.answer.specs.declared.fault.HostFault.TheVariants.{OfRing}
 use Rattle.answer.specs.declared.reply.Answer.{Answer}
 use Rattle.answer.specs.declared.reply.Answer.TheVariants.{Port, Connected}
 use Rattle.law.specs.World.{World, with_memory}
@@ -24,7 +24,7 @@ use Rattle.law.proofs.Requested.{answers_one, answers-once}
 
 -- the fault is not one of a device
 abbrev pub Unbroken : HostFault → Type 0
-Unbroken f = (x : DeviceFault) → f ≡ InRing (OfDevice x) → ⊥
+Unbroken f = (x : DeviceFault) → f ≡ OfRing (OfDevice x) → ⊥
 
 -- no response was written where a connection's answers are as before
 pub no_answer : {X : Type 0} (a : Account) (c j : ℕ) (old n : ConnectionNote) → at a.connections c ≡ Some old → n.answered ≡ old.answered → responses a c ≤ j → j < length n.answered → X
@@ -51,7 +51,7 @@ module _ {M N : Type 0} (R : Rules M) (S : Rules N) (pick : ℕ → ℕ) where
         → frame_bytes f e.world.memory ≡ frame_bytes f w.memory
     pub response : (k j : ℕ) (n : ConnectionNote) (q : Request) → at b.connections k ≡ Some n
         → responses a k ≤ j → j < length n.answered → nth n.requests (get_or n.answered j 0) ≡ Some q → InSlot n j q e.world.memory
-    pub unbroken : (x : DeviceFault) → e.answer.result ≡ Err (InRing (OfDevice x)) → ⊥
+    pub unbroken : (x : DeviceFault) → e.answer.result ≡ Err (OfRing (OfDevice x)) → ⊥
     pub pending : (d p : ℕ) → c ≡ Next d → e.answer.result ≡ Ok (Port p)
         → ((word w.host.events d ≡ 0) × (p ≡ 0)) ⊎ (bit (word w.host.events d) p ≡ 1)
     pub unmarked : (d kind reference n : ℕ) → c ≡ Connect d kind reference → e.answer.result ≡ Ok (Connected n)
@@ -75,6 +75,7 @@ module _ {M N : Type 0} (R : Rules M) (S : Rules N) (pick : ℕ → ℕ) where
       let below : (f : ℕ) → f < H.frames.count → f < w.host.frames.count = λ f h. subst (λ n. f < n) g.count h in
       let above : (f : ℕ) → f < w.host.frames.count → f < H.frames.count = λ f h. subst (λ n. f < n) (sym g.count) h in
       record {
+        frames_stay = g.count;
         pins_are_maps_less_unmaps = λ f h. pins-counted H.frames H.grants b i.books f (omega (arith, i.few, h));
         pinned_keeps_owner = λ f h p. g.owner f p;
         mapped_as_granted = λ d h n l e. granted H.frames H.grants b i.books d h n l e;
@@ -101,7 +102,7 @@ module _ {M N : Type 0} (R : Rules M) (S : Rules N) (pick : ℕ → ℕ) where
 
   -- a call that changes nothing, and the account neither
   pub good_same : (a : Account) (w : World M N) (c : Call) (r : Reply) → Inv R S a w
-      → ((x : DeviceFault) → r.result ≡ Err (InRing (OfDevice x)) → ⊥)
+      → ((x : DeviceFault) → r.result ≡ Err (OfRing (OfDevice x)) → ⊥)
       → ((d p : ℕ) → c ≡ Next d → r.result ≡ Ok (Port p) → ((word w.host.events d ≡ 0) × (p ≡ 0)) ⊎ (bit (word w.host.events d) p ≡ 1))
       → ((n : ℕ) → r.result ≡ Ok (Connected n) → ⊥)
       → Good a a w c (record { answer = r; world = w })
@@ -121,7 +122,7 @@ module _ {M N : Type 0} (R : Rules M) (S : Rules N) (pick : ℕ → ℕ) where
   pub good_refused : (a : Account) (w : World M N) (c : Call) (f : HostFault) → Inv R S a w → Unbroken f → Good a (after a w c (told (Err f))) w c (record { answer = told (Err f); world = w })
   unfolding noted
   good_refused a w c f i u =
-      good_same a w c (told (Err f)) i (λ x e. u x (let z : f ≡ InRing (OfDevice x) = cc in z)) (λ d p q e. absurd (let z : ◌≡◌ {A = ℕ} 0 1 = cc in omega arith)) (λ n e. let z : ◌≡◌ {A = ℕ} 0 1 = cc in omega arith)
+      good_same a w c (told (Err f)) i (λ x e. u x (let z : f ≡ OfRing (OfDevice x) = cc in z)) (λ d p q e. absurd (let z : ◌≡◌ {A = ℕ} 0 1 = cc in omega arith)) (λ n e. let z : ◌≡◌ {A = ℕ} 0 1 = cc in omega arith)
 
   -- a call by a verdict: refused, or good where it is granted
   pub good_by : {T E : Type 0} (a : Account) (w : World M N) (c : Call) (g : E → HostFault) (r : Result T E) (f : T → Answer) (v : T → World M N) → Inv R S a w

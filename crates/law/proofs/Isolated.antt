@@ -13,7 +13,7 @@ use Rattle.connection.specs.declared.kinds.Bay.TheVariants.{BlockBay, NetBay}
 use Rattle.connection.specs.declared.tables.Connection.{Connection}
 use Rattle.backend.specs.declared.tables.Tables.{Tables}
 use Rattle.answer.specs.declared.fault.HostFault.{HostFault}
-use Rattle.answer.specs.declared.fault.HostFault.TheVariants.{BadMemory, BadCaller, InRing}
+use Rattle.answer.specs.declared.fault.HostFault.TheVariants.{BadMemory, BadCaller, OfRing}
 use Rattle.law.specs.World.{World, new_host}
 use Rattle.law.specs.Call.{Call, Take, Give, Load, Store, Entry, End, Map, Unmap, Send, Next, Connect, Serve, Complete, Disconnect}
 use Rattle.law.specs.Step.{step, proceeds, wrong_memory, host_rules, guest_rules, start_rules, started, told, served_in, completed_in, serving_bay, bay_numbered}
@@ -106,9 +106,9 @@ module _ {M N : Type 0} (R : Rules M) (S : Rules N) (pick : ℕ → ℕ) where
     good-complete b = by (ltb 1 b)
       where
         by : (v : Bool) → Good R S pick a
-            (after R S pick a w (Complete b) (either_of (refuse_first {T = Unit} ((v, BadBay) ∷ []) (Ok tt)) (λ _. completed_in R S (bay_numbered b) w) (λ e. record { answer = told (Err (InRing e)); world = w })).answer) w (Complete b)
-            (either_of (refuse_first {T = Unit} ((v, BadBay) ∷ []) (Ok tt)) (λ _. completed_in R S (bay_numbered b) w) (λ e. record { answer = told (Err (InRing e)); world = w }))
-        by true = good_refused R S pick a w (Complete b) (InRing BadBay) i (λ x z. let y : ◌≡◌ {A = ℕ} 0 1 = cc in omega arith)
+            (after R S pick a w (Complete b) (either_of (refuse_first {T = Unit} ((v, BadBay) ∷ []) (Ok tt)) (λ _. completed_in R S (bay_numbered b) w) (λ e. record { answer = told (Err (OfRing e)); world = w })).answer) w (Complete b)
+            (either_of (refuse_first {T = Unit} ((v, BadBay) ∷ []) (Ok tt)) (λ _. completed_in R S (bay_numbered b) w) (λ e. record { answer = told (Err (OfRing e)); world = w }))
+        by true = good_refused R S pick a w (Complete b) (OfRing BadBay) i (λ x z. let y : ◌≡◌ {A = ℕ} 0 1 = cc in omega arith)
         by false = complete-in b (bay_numbered b) refl
 
     -- every call that the host does not refuse

@@ -2,7 +2,7 @@
 use Rattle.std.proofs.Common.{◌≡◌, ℕ, ◌+◌, ◌*◌, ◌<◌, ◌≤◌, Bool, true, false, cond, not, ◌||◌, eqb, ltb, ◌⊎◌, List, [], ◌∷◌, length, get_or, Some, None, Ok, Err, Result, sym, refl, ap, ◌∙◌, subst, inl, inr}
 use Rattle.std.proofs.lemmas.Bool.{not-false, ltb-true, ltb-false, or_cases}
 use Rattle.rules.specs.Tables.{at}
-use Rattle.rules.specs.Refusal.{Rule, refuse_first, after_ok, either_of}
+use Rattle.rules.specs.Refusal.{Rule, refuse_first, passed, granting, after_ok, either_of}
 use Rattle.rules.proofs.Refusals.{none-held}
 use Rattle.device.specs.Meaning.{Rules}
 use Rattle.frame.specs.Access.{access_rules}
@@ -21,13 +21,13 @@ use Rattle.connection.specs.declared.kinds.Bay.TheVariants.{BlockBay, NetBay}
 use Rattle.connection.specs.declared.tables.Connection.{Connection}
 use Rattle.connection.specs.declared.tables.Job.{Job}
 use Rattle.answer.specs.declared.fault.HostFault.{HostFault}
-use Rattle.answer.specs.declared.fault.HostFault.TheVariants.{BadMemory, BadCaller, InFrame, InGrant, InEvent, InRing}
+use Rattle.answer.specs.declared.fault.HostFault.TheVariants.{BadMemory, BadCaller, OfFrame, OfGrant, OfEvent, OfRing}
 use Rattle.answer.specs.declared.reply.Answer.{Answer}
 use Rattle.answer.specs.declared.reply.Answer.TheVariants.{Done, Length, Handle, Port, Connected}
 use Rattle.law.specs.World.{World, with_frames, with_grants, with_events, with_host, with_memory}
 use Rattle.law.specs.Call.{Call, Take, Give, Load, Store, Entry, End, Map, Unmap, Send, Next, Connect, Serve, Complete, Disconnect, domain, Reply}
 use Rattle.law.specs.Connect.{connect_verdict, new_number, connected, connected_memory, disconnect_verdict, disconnected}
-use Rattle.law.specs.Step.{Ends, step, proceeds, by_verdict, send_rules, next_port, host_rules, told, passed_up, served_in, completed_in, serving_bay, bay_rules, bay_numbered}
+use Rattle.law.specs.Step.{Ends, step, proceeds, by_verdict, send_rules, next_port, host_rules, told, served_in, completed_in, serving_bay, bay_rules, bay_numbered}
 use Rattle.law.specs.Account.{Account}
 use Rattle.law.specs.Keeps.{Owns, Maps}
 use Rattle.law.proofs.Inv.{Inv, PartIn, no_part}
@@ -93,8 +93,8 @@ module _ {M N : Type 0} (R : Rules M) (S : Rules N) (pick : ℕ → ℕ) (a : Ac
   load-alike d f o n m same = by (refuse_first (access_rules w.host.frames (maps_frame w.host.grants d f) d f o n) (Ok tt)) refl
     where
       by : (r : Result Unit FrameFault) → refuse_first (access_rules w.host.frames (maps_frame w.host.grants d f) d f o n) (Ok tt) ≡ r
-          → Alike {M = M} {N = N} (record { answer = record { result = passed_up InFrame (λ _. Length n) r; filled = after_ok r [] (λ _. bytes_at (4096 * f + o) n m) }; world = with_memory m w })
-          (record { answer = record { result = passed_up InFrame (λ _. Length n) r; filled = after_ok r [] (λ _. bytes_at (4096 * f + o) n w.memory) }; world = w })
+          → Alike {M = M} {N = N} (record { answer = record { result = passed OfFrame (granting (λ _. Length n) r); filled = after_ok r [] (λ _. bytes_at (4096 * f + o) n m) }; world = with_memory m w })
+          (record { answer = record { result = passed OfFrame (granting (λ _. Length n) r); filled = after_ok r [] (λ _. bytes_at (4096 * f + o) n w.memory) }; world = w })
       by (Ok t) q =
           let none = (none-held (access_rules w.host.frames (maps_frame w.host.grants d f) d f o n) (Ok tt) t q).0 in
           let exists : f < w.host.frames.count = ltb-true f w.host.frames.count (not-false _ none.0) in
@@ -119,8 +119,8 @@ module _ {M N : Type 0} (R : Rules M) (S : Rules N) (pick : ℕ → ℕ) (a : Ac
           same k.page (page_exists a w.host w.memory h k p) (inr (page-written a w.host w.memory h k p).maps)
 
       by : (b : Bay) → Alike (served_in R S b c (with_memory m w)) (served_in R S b c w)
-      by BlockBay = let l = served_learns R c w.host w.memory m w.bay0 size page in (ap (λ r. told (passed_up InRing (λ z. z) r)) l.0, l.1, refl)
-      by NetBay = let l = served_learns S c w.host w.memory m w.bay1 size page in (ap (λ r. told (passed_up InRing (λ z. z) r)) l.0, refl, l.1)
+      by BlockBay = let l = served_learns R c w.host w.memory m w.bay0 size page in (ap (λ r. told (passed OfRing r)) l.0, l.1, refl)
+      by NetBay = let l = served_learns S c w.host w.memory m w.bay1 size page in (ap (λ r. told (passed OfRing r)) l.0, refl, l.1)
 
   -- complete reads the segments of a job, which domain 0 has mapped
   complete-alike : (b : ℕ) (m : List ℕ) → length m ≡ length w.memory → SeenSame (Complete b) m → Alike (proceeds R S pick (with_memory m w) (Complete b)) (proceeds R S pick w (Complete b))
@@ -134,26 +134,26 @@ module _ {M N : Type 0} (R : Rules M) (S : Rules N) (pick : ℕ → ℕ) (a : Ac
           (f.0, (f.1.0, same f.0 f.1.1.0 (inr f.1.1.1)))
 
       in_bay : (v : Bay) → Alike (completed_in R S v (with_memory m w)) (completed_in R S v w)
-      in_bay BlockBay = let l = completed_learns R BlockBay w.host w.memory m w.bay0 size parts in (ap (λ r. told (passed_up InRing (λ z. z) r)) l.0, l.1, refl)
-      in_bay NetBay = let l = completed_learns S NetBay w.host w.memory m w.bay1 size parts in (ap (λ r. told (passed_up InRing (λ z. z) r)) l.0, refl, l.1)
+      in_bay BlockBay = let l = completed_learns R BlockBay w.host w.memory m w.bay0 size parts in (ap (λ r. told (passed OfRing r)) l.0, l.1, refl)
+      in_bay NetBay = let l = completed_learns S NetBay w.host w.memory m w.bay1 size parts in (ap (λ r. told (passed OfRing r)) l.0, refl, l.1)
 
-      by : (r : Result Unit RingFault) → Alike (either_of r (λ _. completed_in R S (bay_numbered b) (with_memory m w)) (λ e. record { answer = told (Err (InRing e)); world = with_memory m w })) (either_of r (λ _. completed_in R S (bay_numbered b) w) (λ e. record { answer = told (Err (InRing e)); world = w }))
+      by : (r : Result Unit RingFault) → Alike (either_of r (λ _. completed_in R S (bay_numbered b) (with_memory m w)) (λ e. record { answer = told (Err (OfRing e)); world = with_memory m w })) (either_of r (λ _. completed_in R S (bay_numbered b) w) (λ e. record { answer = told (Err (OfRing e)); world = w }))
       by (Ok t) = in_bay (bay_numbered b)
       by (Err e) = (refl, refl, refl)
 
   pub learns : (c : Call) → Learns R S pick a w c
   unfolding proceeds
-  learns (Take d f) m size same = step-alike (Take d f) m size (alike-by {T = Unit} InFrame (refuse_first (take_rules w.host.frames f) (Ok tt)) (λ _. Done) (λ u t. with_memory (zeroed f u.memory) (with_host (with_frames (with_owner f (Some d) u.host.frames) u.host) u)) w m (λ u t. refl) (λ u t. refl))
-  learns (Give d f) m size same = step-alike (Give d f) m size (alike-by {T = Unit} InFrame (refuse_first (give_rules w.host.frames (pins w.host.grants.records f) d f) (Ok tt)) (λ _. Done) (λ u t. with_host (with_frames (with_owner f None u.host.frames) u.host) u) w m (λ u t. refl) (λ u t. refl))
+  learns (Take d f) m size same = step-alike (Take d f) m size (alike-by {T = Unit} OfFrame (refuse_first (take_rules w.host.frames f) (Ok tt)) (λ _. Done) (λ u t. with_memory (zeroed f u.memory) (with_host (with_frames (with_owner f (Some d) u.host.frames) u.host) u)) w m (λ u t. refl) (λ u t. refl))
+  learns (Give d f) m size same = step-alike (Give d f) m size (alike-by {T = Unit} OfFrame (refuse_first (give_rules w.host.frames (pins w.host.grants.records f) d f) (Ok tt)) (λ _. Done) (λ u t. with_host (with_frames (with_owner f None u.host.frames) u.host) u) w m (λ u t. refl) (λ u t. refl))
   learns (Load d f o n) m size same = step-alike (Load d f o n) m size (load-alike d f o n m same)
-  learns (Store d f o bs) m size same = step-alike (Store d f o bs) m size (alike-by {T = Unit} InFrame (refuse_first (access_rules w.host.frames (writes_frame w.host.grants d f) d f o (length bs)) (Ok tt)) (λ _. Length (length bs)) (λ u t. with_memory (placed (4096 * f + o) bs u.memory) u) w m (λ u t. refl) (λ u t. refl))
-  learns (Entry d n fl to f) m size same = step-alike (Entry d n fl to f) m size (alike-by {T = Unit} InGrant (refuse_first (entry_rules n) (Ok tt)) (λ _. Done) (λ u t. with_host (with_grants (with_entry (place d n) (record { flags = fl; domid = to; frame = f }) u.host.grants) u.host) u) w m (λ u t. refl) (λ u t. refl))
-  learns (End d n) m size same = step-alike (End d n) m size (alike-by {T = Unit} InGrant (refuse_first (end_rules w.host.grants d n) (Ok tt)) (λ _. Done) (λ u t. with_host (with_grants (with_entry (place d n) (with_flags 0 (entry_at u.host.grants (place d n))) u.host.grants) u.host) u) w m (λ u t. refl) (λ u t. refl))
-  learns (Map d o n md) m size same = step-alike (Map d o n md) m size (alike-by InGrant (map_verdict w.host.frames w.host.grants d o n md) (λ g. Handle g.handle) (λ u t. with_host (with_grants (pin d t.handle t.mapping u.host.grants) u.host) u) w m (λ u t. refl) (λ u t. refl))
-  learns (Unmap d h) m size same = step-alike (Unmap d h) m size (alike-by InGrant (unmap_verdict w.host.grants d h) (λ _. Done) (λ u t. with_host (with_grants (unpin d h t u.host.grants) u.host) u) w m (λ u t. refl) (λ u t. refl))
-  learns (Send d p) m size same = step-alike (Send d p) m size (alike-by {T = Unit} InEvent (refuse_first (send_rules w.host d p) (Ok tt)) (λ _. Done) (λ u t. with_host (with_events (marked 0 p u.host.events) u.host) u) w m (λ u t. refl) (λ u t. refl))
+  learns (Store d f o bs) m size same = step-alike (Store d f o bs) m size (alike-by {T = Unit} OfFrame (refuse_first (access_rules w.host.frames (writes_frame w.host.grants d f) d f o (length bs)) (Ok tt)) (λ _. Length (length bs)) (λ u t. with_memory (placed (4096 * f + o) bs u.memory) u) w m (λ u t. refl) (λ u t. refl))
+  learns (Entry d n fl to f) m size same = step-alike (Entry d n fl to f) m size (alike-by {T = Unit} OfGrant (refuse_first (entry_rules n) (Ok tt)) (λ _. Done) (λ u t. with_host (with_grants (with_entry (place d n) (record { flags = fl; domid = to; frame = f }) u.host.grants) u.host) u) w m (λ u t. refl) (λ u t. refl))
+  learns (End d n) m size same = step-alike (End d n) m size (alike-by {T = Unit} OfGrant (refuse_first (end_rules w.host.grants d n) (Ok tt)) (λ _. Done) (λ u t. with_host (with_grants (with_entry (place d n) (with_flags 0 (entry_at u.host.grants (place d n))) u.host.grants) u.host) u) w m (λ u t. refl) (λ u t. refl))
+  learns (Map d o n md) m size same = step-alike (Map d o n md) m size (alike-by OfGrant (map_verdict w.host.frames w.host.grants d o n md) (λ g. Handle g.handle) (λ u t. with_host (with_grants (pin d t.handle t.mapping u.host.grants) u.host) u) w m (λ u t. refl) (λ u t. refl))
+  learns (Unmap d h) m size same = step-alike (Unmap d h) m size (alike-by OfGrant (unmap_verdict w.host.grants d h) (λ _. Done) (λ u t. with_host (with_grants (unpin d h t u.host.grants) u.host) u) w m (λ u t. refl) (λ u t. refl))
+  learns (Send d p) m size same = step-alike (Send d p) m size (alike-by {T = Unit} OfEvent (refuse_first (send_rules w.host d p) (Ok tt)) (λ _. Done) (λ u t. with_host (with_events (marked 0 p u.host.events) u.host) u) w m (λ u t. refl) (λ u t. refl))
   learns (Next d) m size same = step-alike (Next d) m size (alike-cond (eqb (word w.host.events d) 0) (told (Ok (Port (next_port pick (word w.host.events d))))) w (with_memory m w) (with_host (with_events (dropped d (next_port pick (word w.host.events d)) w.host.events) w.host) w) (with_host (with_events (dropped d (next_port pick (word w.host.events d)) w.host.events) w.host) (with_memory m w)) refl refl refl refl)
-  learns (Connect d k n) m size same = step-alike (Connect d k n) m size (alike-by InRing (connect_verdict w.host d k n) (λ _. Connected (new_number w.host)) (λ u t. with_memory (connected_memory t u.memory) (with_host (connected d k t u.host) u)) w m (λ u t. refl) (λ u t. refl))
+  learns (Connect d k n) m size same = step-alike (Connect d k n) m size (alike-by OfRing (connect_verdict w.host d k n) (λ _. Connected (new_number w.host)) (λ u t. with_memory (connected_memory t u.memory) (with_host (connected d k t u.host) u)) w m (λ u t. refl) (λ u t. refl))
   learns (Serve c) m size same = step-alike (Serve c) m size (serve-alike c m size same)
   learns (Complete b) m size same = step-alike (Complete b) m size (complete-alike b m size same)
-  learns (Disconnect c) m size same = step-alike (Disconnect c) m size (alike-by InRing (disconnect_verdict w.host c) (λ _. Done) (λ u t. with_host (disconnected c t u.host) u) w m (λ u t. refl) (λ u t. refl))
+  learns (Disconnect c) m size same = step-alike (Disconnect c) m size (alike-by OfRing (disconnect_verdict w.host c) (λ _. Done) (λ u t. with_host (disconnected c t u.host) u) w m (λ u t. refl) (λ u t. refl))

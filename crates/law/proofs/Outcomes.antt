@@ -1,7 +1,7 @@
 -- A call that one device has part in: what it does, whichever bay the device is in.
 use Rattle.std.proofs.Common.{◌≡◌, ℕ, ◌*◌, ◌<◌, ◌≤◌, false, List, length, get_or, Some, Ok, Err, Result, sym, refl, ap, ◌∙◌, subst, arith}
 use Rattle.rules.specs.Tables.{at}
-use Rattle.rules.specs.Refusal.{after_ok}
+use Rattle.rules.specs.Refusal.{passed, after_ok}
 use Rattle.device.specs.Meaning.{Rules}
 use Rattle.device.specs.declared.fault.DeviceFault.{DeviceFault}
 use Rattle.frame.specs.Memory.{frame_bytes}
@@ -16,12 +16,12 @@ use Rattle.connection.specs.declared.kinds.Bay.TheVariants.{BlockBay, NetBay}
 use Rattle.connection.specs.declared.tables.Connection.{Connection}
 use Rattle.backend.specs.declared.tables.Tables.{Tables}
 use Rattle.answer.specs.declared.fault.HostFault.{HostFault}
-use Rattle.answer.specs.declared.fault.HostFault.TheVariants.{InRing}
+use Rattle.answer.specs.declared.fault.HostFault.TheVariants.{OfRing}
 use Rattle.answer.specs.declared.reply.Answer.{Answer}
 use Rattle.law.specs.World.{World}
 use Rattle.law.specs.Call.{Call, Next, Connect, domain}
 use Rattle.law.specs.Serve.{Outcome}
-use Rattle.law.specs.Step.{told, passed_up, by_bay0, by_bay1}
+use Rattle.law.specs.Step.{told, by_bay0, by_bay1}
 use Rattle.law.specs.Account.{Account, ConnectionNote, accepted, noted}
 use Rattle.law.specs.Keeps.{Writes, InSlot, nth, responses, handed}
 use Rattle.law.proofs.Inv.{Inv, BooksOf, Links, Requests, BayHeld, Words, PageMapped}
@@ -69,18 +69,18 @@ module _ {X : Type 0} (D : Rules X) (b : Bay) (a : Account) (H : Tables) (m : Li
     pub refused : (e : RingFault) → o.answer ≡ Err e → (o.host ≡ H) × (o.memory ≡ m) × (o.device ≡ x)
 
 -- a fault of a device is passed up only where the layer of rings says so
-ring_unbroken : (r : Result Answer RingFault) (e : DeviceFault) → ((z : DeviceFault) → r ≡ Err (OfDevice z) → ⊥) → passed_up InRing (λ x. x) r ≡ Err (InRing (OfDevice e)) → ⊥
+ring_unbroken : (r : Result Answer RingFault) (e : DeviceFault) → ((z : DeviceFault) → r ≡ Err (OfDevice z) → ⊥) → passed OfRing r ≡ Err (OfRing (OfDevice e)) → ⊥
 ring_unbroken (Ok y) e u q = let z : ◌≡◌ {A = ℕ} 0 1 = cc in omega arith
 ring_unbroken (Err f) e u q = u e (let z : ◌≡◌ {A = Result Answer RingFault} (Err f) (Err (OfDevice e)) = cc in z)
 
 -- a fault that is passed up is the layer of rings'
-passed-fault : (r : Result Answer RingFault) (f : HostFault) → passed_up InRing (λ x. x) r ≡ Err f → (e : RingFault) × (r ≡ Err e)
+passed-fault : (r : Result Answer RingFault) (f : HostFault) → passed OfRing r ≡ Err f → (e : RingFault) × (r ≡ Err e)
 passed-fault (Ok y) f q = absurd (let z : ◌≡◌ {A = ℕ} 0 1 = cc in omega arith)
 passed-fault (Err e) f q = (e, refl)
 
 -- serve and complete: the account after them, by the answer of the layer of rings
 pub ring_noted : {M N : Type 0} (R : Rules M) (S : Rules N) (a : Account) (c : Call) (r : Result Answer RingFault) (m : List ℕ) (x : M) (y : N) (f : Answer → Account)
-    → ((z : Answer) → accepted R S a c z m x y ≡ f z) → noted R S a c (told (passed_up InRing (λ z. z) r)) m x y ≡ after_ok r a f
+    → ((z : Answer) → accepted R S a c z m x y ≡ f z) → noted R S a c (told (passed OfRing r)) m x y ≡ after_ok r a f
 unfolding noted
 ring_noted R S a c (Ok z) m x y f e = e z
 ring_noted R S a c (Err z) m x y f e = refl

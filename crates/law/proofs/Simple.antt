@@ -3,7 +3,7 @@ use Rattle.std.proofs.Common.{◌≡◌, ℕ, ◌+◌, ◌-◌, ◌*◌, ◌<◌
 use Rattle.std.proofs.lemmas.List.{get_or-set_same, get_or-set_other}
 use Rattle.std.proofs.lemmas.Bool.{cases_eq, cases_lt, not-false, ltb-true, ltb-false, or_parts, or_cases, both_ways, eqb-false}
 use Rattle.rules.specs.Tables.{at}
-use Rattle.rules.specs.Refusal.{refuse_first, after_ok}
+use Rattle.rules.specs.Refusal.{refuse_first, passed, granting, after_ok}
 use Rattle.rules.proofs.Refusals.{none-held}
 use Rattle.device.specs.Meaning.{Rules}
 use Rattle.frame.specs.Owners.{owner_of, owns, take_rules, give_rules, with_owner}
@@ -23,12 +23,12 @@ use Rattle.event.specs.Pending.{word, bit, marked, dropped}
 use Rattle.connection.specs.Tables.{connection_at}
 use Rattle.connection.specs.declared.kinds.Bay.TheVariants.{BlockBay, NetBay}
 use Rattle.connection.specs.declared.tables.Connection.{Connection}
-use Rattle.answer.specs.declared.fault.HostFault.TheVariants.{InFrame, InGrant, InEvent}
+use Rattle.answer.specs.declared.fault.HostFault.TheVariants.{OfFrame, OfGrant, OfEvent}
 use Rattle.answer.specs.declared.reply.Answer.TheVariants.{Done, Length, Handle, Port, Connected}
 use Rattle.backend.specs.declared.tables.Tables.{Tables}
 use Rattle.law.specs.World.{World, with_frames, with_grants, with_events, with_host, with_memory}
 use Rattle.law.specs.Call.{Take, Give, Load, Store, Entry, End, Map, Unmap, Send, Next}
-use Rattle.law.specs.Step.{proceeds, told, passed_up, send_rules, guests_end, next_port}
+use Rattle.law.specs.Step.{proceeds, told, send_rules, guests_end, next_port}
 use Rattle.law.specs.Account.{Account, accepted, noted, noted_owner, noted_entry, mapping_noted, mapping_ended}
 use Rattle.law.specs.Keeps.{Writes, LiveEnd}
 use Rattle.law.specs.Law.{Picks}
@@ -42,13 +42,13 @@ use Rattle.law.proofs.Marks.{marked_words, dropped_words, next_pending}
 use Rattle.law.proofs.Good.{Good, Unbroken, after, good_same, good_by, good_quiet, no_response}
 
 -- faults of the layers of frames, grants and events are no device's
-pub in_frame : (e : FrameFault) → Unbroken (InFrame e)
+pub in_frame : (e : FrameFault) → Unbroken (OfFrame e)
 in_frame e x q = let z : ◌≡◌ {A = ℕ} 0 1 = cc in omega arith
 
-pub in_grant : (e : GrantFault) → Unbroken (InGrant e)
+pub in_grant : (e : GrantFault) → Unbroken (OfGrant e)
 in_grant e x q = let z : ◌≡◌ {A = ℕ} 0 1 = cc in omega arith
 
-pub in_event : (e : EventFault) → Unbroken (InEvent e)
+pub in_event : (e : EventFault) → Unbroken (OfEvent e)
 in_event e x q = let z : ◌≡◌ {A = ℕ} 0 1 = cc in omega arith
 
 no_port : (p : ℕ) → (Done ≡ Port p → ⊥) × (Done ≡ Connected p → ⊥)
@@ -67,7 +67,7 @@ module _ {M N : Type 0} (R : Rules M) (S : Rules N) (pick : ℕ → ℕ) (pk : P
 
   pub good_take : (d f : ℕ) → Good R S pick a (after R S pick a w (Take d f) (proceeds R S pick w (Take d f)).answer) w (Take d f) (proceeds R S pick w (Take d f))
   unfolding proceeds accepted
-  good_take d f = good_by R S pick {T = Unit} {E = FrameFault} a w (Take d f) InFrame (refuse_first (take_rules H.frames f) (Ok tt)) (λ _. Done) (λ _. with_memory (zeroed f w.memory) (with_host (with_frames (with_owner f (Some d) H.frames) H) w)) i
+  good_take d f = good_by R S pick {T = Unit} {E = FrameFault} a w (Take d f) OfFrame (refuse_first (take_rules H.frames f) (Ok tt)) (λ _. Done) (λ _. with_memory (zeroed f w.memory) (with_host (with_frames (with_owner f (Some d) H.frames) H) w)) i
       (λ t q.
       let none = (none-held (take_rules H.frames f) (Ok tt) tt q).0 in
       let exists : f < H.frames.count = ltb-true f H.frames.count (not-false _ none.0) in
@@ -105,7 +105,7 @@ module _ {M N : Type 0} (R : Rules M) (S : Rules N) (pick : ℕ → ℕ) (pk : P
 
   pub good_give : (d f : ℕ) → Good R S pick a (after R S pick a w (Give d f) (proceeds R S pick w (Give d f)).answer) w (Give d f) (proceeds R S pick w (Give d f))
   unfolding proceeds accepted
-  good_give d f = good_by R S pick {T = Unit} {E = FrameFault} a w (Give d f) InFrame (refuse_first (give_rules H.frames (pins H.grants.records f) d f) (Ok tt)) (λ _. Done) (λ _. with_host (with_frames (with_owner f None H.frames) H) w) i
+  good_give d f = good_by R S pick {T = Unit} {E = FrameFault} a w (Give d f) OfFrame (refuse_first (give_rules H.frames (pins H.grants.records f) d f) (Ok tt)) (λ _. Done) (λ _. with_host (with_frames (with_owner f None H.frames) H) w) i
       (λ t q.
       let none = (none-held (give_rules H.frames (pins H.grants.records f) d f) (Ok tt) tt q).0 in
       let unpinned : pins H.grants.records f ≡ 0 = omega (arith, ltb-false 0 (pins H.grants.records f) none.1.0) in
@@ -139,14 +139,14 @@ module _ {M N : Type 0} (R : Rules M) (S : Rules N) (pick : ℕ → ℕ) (pk : P
   unfolding proceeds noted accepted
   good_load d f o n = loaded (refuse_first (access_rules H.frames (maps_frame H.grants d f) d f o n) (Ok tt))
     where
-      loaded : (r : Result Unit FrameFault) → Good R S pick a (after R S pick a w (Load d f o n) (record { result = passed_up InFrame (λ _. Length n) r; filled = after_ok r [] (λ _. bytes_at (4096 * f + o) n w.memory) })) w (Load d f o n)
-          (record { answer = record { result = passed_up InFrame (λ _. Length n) r; filled = after_ok r [] (λ _. bytes_at (4096 * f + o) n w.memory) }; world = w })
+      loaded : (r : Result Unit FrameFault) → Good R S pick a (after R S pick a w (Load d f o n) (record { result = passed OfFrame (granting (λ _. Length n) r); filled = after_ok r [] (λ _. bytes_at (4096 * f + o) n w.memory) })) w (Load d f o n)
+          (record { answer = record { result = passed OfFrame (granting (λ _. Length n) r); filled = after_ok r [] (λ _. bytes_at (4096 * f + o) n w.memory) }; world = w })
       loaded (Ok tt) = good_same R S pick a w (Load d f o n) _ i (λ x e. let z : ◌≡◌ {A = ℕ} 0 1 = cc in omega arith) (λ d' p e z. absurd (let z : ◌≡◌ {A = ℕ} 0 1 = cc in omega arith)) (λ n e. let z : ◌≡◌ {A = ℕ} 0 1 = cc in omega arith)
       loaded (Err e) = good_same R S pick a w (Load d f o n) _ i (λ x e. let z : ◌≡◌ {A = ℕ} 0 1 = cc in omega arith) (λ d' p e z. absurd (let z : ◌≡◌ {A = ℕ} 0 1 = cc in omega arith)) (λ n e. let z : ◌≡◌ {A = ℕ} 0 1 = cc in omega arith)
 
   pub good_store : (d f o : ℕ) (bs : List ℕ) → Good R S pick a (after R S pick a w (Store d f o bs) (proceeds R S pick w (Store d f o bs)).answer) w (Store d f o bs) (proceeds R S pick w (Store d f o bs))
   unfolding proceeds accepted
-  good_store d f o bs = good_by R S pick {T = Unit} {E = FrameFault} a w (Store d f o bs) InFrame (refuse_first (access_rules H.frames (writes_frame H.grants d f) d f o (length bs)) (Ok tt)) (λ _. Length (length bs))
+  good_store d f o bs = good_by R S pick {T = Unit} {E = FrameFault} a w (Store d f o bs) OfFrame (refuse_first (access_rules H.frames (writes_frame H.grants d f) d f o (length bs)) (Ok tt)) (λ _. Length (length bs))
       (λ _. with_memory (placed (4096 * f + o) bs w.memory) w) i
       (λ t q.
       let none = (none-held (access_rules H.frames (writes_frame H.grants d f) d f o (length bs)) (Ok tt) tt q).0 in
@@ -198,7 +198,7 @@ module _ {M N : Type 0} (R : Rules M) (S : Rules N) (pick : ℕ → ℕ) (pk : P
 
   pub good_entry : (d n fl to f : ℕ) → Good R S pick a (after R S pick a w (Entry d n fl to f) (proceeds R S pick w (Entry d n fl to f)).answer) w (Entry d n fl to f) (proceeds R S pick w (Entry d n fl to f))
   unfolding proceeds accepted
-  good_entry d n fl to f = good_by R S pick {T = Unit} {E = GrantFault} a w (Entry d n fl to f) InGrant (refuse_first (entry_rules n) (Ok tt)) (λ _. Done)
+  good_entry d n fl to f = good_by R S pick {T = Unit} {E = GrantFault} a w (Entry d n fl to f) OfGrant (refuse_first (entry_rules n) (Ok tt)) (λ _. Done)
       (λ _. with_host (with_grants (with_entry (place d n) (record { flags = fl; domid = to; frame = f }) H.grants) H) w) i
       (λ t q. good_quiet R S pick a (noted_entry (place d n) (record { flags = fl; domid = to; frame = f }) a) w _ (Entry d n fl to f) Done
       (regranted (with_entry (place d n) (record { flags = fl; domid = to; frame = f }) H.grants) (noted_entry (place d n) (record { flags = fl; domid = to; frame = f }) a)
@@ -208,7 +208,7 @@ module _ {M N : Type 0} (R : Rules M) (S : Rules N) (pick : ℕ → ℕ) (pk : P
 
   pub good_end : (d n : ℕ) → Good R S pick a (after R S pick a w (End d n) (proceeds R S pick w (End d n)).answer) w (End d n) (proceeds R S pick w (End d n))
   unfolding proceeds accepted
-  good_end d n = good_by R S pick {T = Unit} {E = GrantFault} a w (End d n) InGrant (refuse_first (end_rules H.grants d n) (Ok tt)) (λ _. Done)
+  good_end d n = good_by R S pick {T = Unit} {E = GrantFault} a w (End d n) OfGrant (refuse_first (end_rules H.grants d n) (Ok tt)) (λ _. Done)
       (λ _. with_host (with_grants (with_entry (place d n) (with_flags 0 (entry_at H.grants (place d n))) H.grants) H) w) i
       (λ t q. good_quiet R S pick a (noted_entry (place d n) (with_flags 0 (get_or a.entries (place d n) blank)) a) w _ (End d n) Done
       (regranted (with_entry (place d n) (with_flags 0 (entry_at H.grants (place d n))) H.grants) (noted_entry (place d n) (with_flags 0 (get_or a.entries (place d n) blank)) a)
@@ -222,7 +222,7 @@ module _ {M N : Type 0} (R : Rules M) (S : Rules N) (pick : ℕ → ℕ) (pk : P
 
   pub good_map : (d o n md : ℕ) → 0 < d → d < 8 → Good R S pick a (after R S pick a w (Map d o n md) (proceeds R S pick w (Map d o n md)).answer) w (Map d o n md) (proceeds R S pick w (Map d o n md))
   unfolding proceeds accepted
-  good_map d o n md guest below = good_by R S pick a w (Map d o n md) InGrant (map_verdict H.frames H.grants d o n md) (λ g. Handle g.handle)
+  good_map d o n md guest below = good_by R S pick a w (Map d o n md) OfGrant (map_verdict H.frames H.grants d o n md) (λ g. Handle g.handle)
       (λ g. with_host (with_grants (pin d g.handle g.mapping H.grants) H) w) i
       (λ g q. good_quiet R S pick a (mapping_noted d g.handle o n (mode_of md) a) w _ (Map d o n md) (Handle g.handle)
       (regranted (pin d g.handle g.mapping H.grants) (mapping_noted d g.handle o n (mode_of md) a)
@@ -235,7 +235,7 @@ module _ {M N : Type 0} (R : Rules M) (S : Rules N) (pick : ℕ → ℕ) (pk : P
 
   pub good_unmap : (d h : ℕ) → 0 < d → d < 8 → Good R S pick a (after R S pick a w (Unmap d h) (proceeds R S pick w (Unmap d h)).answer) w (Unmap d h) (proceeds R S pick w (Unmap d h))
   unfolding proceeds accepted
-  good_unmap d h guest below = good_by R S pick a w (Unmap d h) InGrant (unmap_verdict H.grants d h) (λ _. Done)
+  good_unmap d h guest below = good_by R S pick a w (Unmap d h) OfGrant (unmap_verdict H.grants d h) (λ _. Done)
       (λ p. with_host (with_grants (unpin d h p H.grants) H) w) i
       (λ p q.
       let u = unmap_accepted H.grants d h p q in
@@ -273,7 +273,7 @@ module _ {M N : Type 0} (R : Rules M) (S : Rules N) (pick : ℕ → ℕ) (pk : P
 
   pub good_send : (d p : ℕ) → Good R S pick a (after R S pick a w (Send d p) (proceeds R S pick w (Send d p)).answer) w (Send d p) (proceeds R S pick w (Send d p))
   unfolding proceeds accepted
-  good_send d p = good_by R S pick {T = Unit} {E = EventFault} a w (Send d p) InEvent (refuse_first (send_rules H d p) (Ok tt)) (λ _. Done)
+  good_send d p = good_by R S pick {T = Unit} {E = EventFault} a w (Send d p) OfEvent (refuse_first (send_rules H d p) (Ok tt)) (λ _. Done)
       (λ _. with_host (with_events (marked 0 p H.events) H) w) i
       (λ t q. good_quiet R S pick a a w _ (Send d p) Done (let e = sent-end d p q in remarked (marked 0 p H.events) (marked_words H.events a.connections 0 p e.0 e.1 i.words)) refl refl refl refl no_port)
       (λ e q. in_event e)

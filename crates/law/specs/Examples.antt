@@ -18,6 +18,7 @@ use Rattle.answer.specs.Parts.{answer_parts}
 use Rattle.law.specs.World.{World, new_host}
 use Rattle.law.specs.Call.{Call, Take, Give, Entry, Map, Unmap}
 use Rattle.law.specs.Step.{step}
+use Rattle.law.specs.Run.{after_calls}
 
 -- a disk of 32 sectors, with four slots for orders
 abbrev pub small_disk : State
@@ -32,17 +33,16 @@ abbrev pub first_port : ℕ → ℕ
 first_port marks = 0
 
 -- the world after these calls, the first first
-unfoldable pub after : World State State → List Call → World State State
-after w [] = w
-after w (c ∷ cs) = after (step disk_rules disk_rules first_port w c).world cs
+abbrev pub after : List Call → World State State
+after cs = after_calls disk_rules disk_rules first_port at_first cs
 
 -- the number that the call c answers after these
 abbrev pub answers : List Call → Call → ℤ
-answers cs c = (answer_parts (step disk_rules disk_rules first_port (after at_first cs) c).answer.result).answer
+answers cs c = (answer_parts (step disk_rules disk_rules first_port (after cs) c).answer.result).answer
 
 -- the flags of domain 1's entry 0 after these calls
 abbrev pub flags : List Call → ℕ
-flags cs = (entry_at (after at_first cs).host.grants (place 1 0)).flags
+flags cs = (entry_at (after cs).host.grants (place 1 0)).flags
 
 -- domain 1 takes frame 3 and grants it to domain 2 by its entry 0, with flags 1
 abbrev pub granted : List Call → List Call

@@ -27,7 +27,7 @@ use Rattle.connection.specs.declared.kinds.Bay.TheVariants.{BlockBay, NetBay}
 use Rattle.connection.specs.declared.tables.Connection.{Connection}
 use Rattle.connection.specs.declared.tables.Job.{Job}
 use Rattle.answer.specs.declared.fault.HostFault.{HostFault}
-use Rattle.answer.specs.declared.fault.HostFault.TheVariants.{InRing}
+use Rattle.answer.specs.declared.fault.HostFault.TheVariants.{OfRing}
 use Rattle.answer.specs.declared.reply.Answer.TheVariants.{Port, Connected}
 use Rattle.law.specs.World.{World, with_memory}
 use Rattle.law.specs.Call.{Call, Next, Connect, domain, Reply}
@@ -156,6 +156,8 @@ pub record Counted (k : Connection) (n : ConnectionNote) : Type 0 where
 
 -- the law of one step: a is the account before the call, b after it
 pub record Keeps {M N : Type 0} (R : Rules M) (S : Rules N) (pick : ℕ → ℕ) (a b : Account) (s : Step M N) : Type 0 where
+  -- the number of frames stays; the sentences about a frame are of those below it
+  pub frames_stay : s.left.host.frames.count ≡ s.found.host.frames.count
   -- a frame's accepted maps less its accepted unmaps are its pins
   pub pins_are_maps_less_unmaps : (f : ℕ) → f < s.left.host.frames.count
       → pins s.left.host.grants.records f + slice_index b.unmaps f ≡ slice_index b.maps f
@@ -194,7 +196,7 @@ pub record Keeps {M N : Type 0} (R : Rules M) (S : Rules N) (pick : ℕ → ℕ)
   pub orders_are_jobs0 : (t : ℕ) → under_ticket t (R.orders s.left.bay0) ≡ handed BlockBay (at b.jobs t)
   pub orders_are_jobs1 : (t : ℕ) → under_ticket t (S.orders s.left.bay1) ≡ handed NetBay (at b.jobs t)
   -- so no fill, drain or done is refused
-  pub never_broken_off : (e : DeviceFault) → s.answered.result ≢ Err (InRing (OfDevice e))
+  pub never_broken_off : (e : DeviceFault) → s.answered.result ≢ Err (OfRing (OfDevice e))
   -- the host's owners, live connections and jobs are the account's
   pub owners_agree : s.left.host.frames.owners ≡ b.owners
   pub connections_agree : map (option_map host_pairing) s.left.host.rings.connections ≡ map (option_map noted_pairing) b.connections

@@ -56,6 +56,11 @@ module _ {M N : Type 0} (R : Rules M) (S : Rules N) (pick : ℕ → ℕ) where
     pub runs : (h : History M N) → Reaches h w → Reaches (record { found = w; call = c; answered = r; left = v } ∷ h) v
     pub lawful : (h : History M N) → Reaches h w → Lawful (record { found = w; call = c; answered = r; left = v } ∷ h)
 
+  -- the world that the calls' steps leave, made one after the other from w on
+  unfoldable pub after_calls : World M N → List Call → World M N
+  after_calls w [] = w
+  after_calls w (c ∷ cs) = after_calls (step R S pick w c).world cs
+
   -- the calls of a run, the first first
   unfoldable pub calls_of : History M N → List Call
   calls_of [] = []

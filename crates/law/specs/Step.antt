@@ -1,6 +1,6 @@
 -- Each call's step: what it answers and what it leaves.
 use Rattle.std.specs.Prelude.{ℕ, ◌+◌, ◌-◌, ◌*◌, Bool, false, cond, not, ◌||◌, List, [], ◌∷◌, length, Some, None, Ok, Err, Option, Result, ◌==◌, nat_lt}
-use Rattle.rules.specs.Refusal.{Rule, refuse_first, after_ok, either_of}
+use Rattle.rules.specs.Refusal.{Rule, refuse_first, passed, granting, after_ok, either_of}
 use Rattle.device.specs.Meaning.{Rules}
 use Rattle.frame.specs.Domain.{no_domain}
 use Rattle.frame.specs.Owners.{take_rules, give_rules, with_owner}
@@ -22,7 +22,7 @@ use Rattle.connection.specs.declared.kinds.Bay.TheVariants.{BlockBay, NetBay}
 use Rattle.connection.specs.declared.tables.Connection.{Connection}
 use Rattle.backend.specs.declared.tables.Tables.{Tables}
 use Rattle.answer.specs.declared.fault.HostFault.{HostFault}
-use Rattle.answer.specs.declared.fault.HostFault.TheVariants.{BadMemory, BadCaller, InFrame, InGrant, InEvent, InRing}
+use Rattle.answer.specs.declared.fault.HostFault.TheVariants.{BadMemory, BadCaller, OfFrame, OfGrant, OfEvent, OfRing}
 use Rattle.answer.specs.declared.reply.Answer.{Answer}
 use Rattle.answer.specs.declared.reply.Answer.TheVariants.{Done, Length, Handle, Port, Connected}
 use Rattle.law.specs.World.{World, new_host, with_frames, with_grants, with_events, with_host, with_memory}
@@ -58,7 +58,7 @@ start_rules n m = (n == 0 || nat_lt 256 n || not (length m == 4096 * n), BadMemo
 unfoldable pub started : ℕ → List ℕ → Result Tables HostFault
 started n m = refuse_first (start_rules n m) (Ok (new_host n))
 
--- the port p is the caller d's end of a live connection
+-- the connection is live, and d is its guest
 abbrev pub guests_end : ℕ → Option Connection → Bool
 guests_end d None = false
 guests_end d (Some k) = k.guest == d
@@ -86,26 +86,22 @@ serving_bay (Some k) = bay_of k.kind
 abbrev pub told : Result Answer HostFault → Reply
 told r = record { result = r; filled = [] }
 
--- an answer of a layer below, passed up with its fault whole
-abbrev pub passed_up : {T E : Type 0} → (E → HostFault) → (T → Answer) → Result T E → Result Answer HostFault
-passed_up g f r = either_of r (λ t. Ok (f t)) (λ e. Err (g e))
-
 module _ {M N : Type 0} where
   -- a call by rules: refused by the first that holds, with the world as it was, or done
   abbrev pub by_rules : {E : Type 0} → (E → HostFault) → List (Rule E) → World M N → Answer → World M N → Ends M N
   by_rules g rules w a v =
-      record { answer = told (passed_up g (λ _. a) (refuse_first {T = Unit} rules (Ok tt))); world = after_ok (refuse_first {T = Unit} rules (Ok tt)) w (λ _. v) }
+      record { answer = told (passed g (granting (λ _. a) (refuse_first {T = Unit} rules (Ok tt)))); world = after_ok (refuse_first {T = Unit} rules (Ok tt)) w (λ _. v) }
 
   -- a call by a verdict that grants something
   abbrev pub by_verdict : {T E : Type 0} → (E → HostFault) → Result T E → World M N → (T → Answer) → (T → World M N) → Ends M N
-  by_verdict g r w f v = record { answer = told (passed_up g f r); world = after_ok r w v }
+  by_verdict g r w f v = record { answer = told (passed g (granting f r)); world = after_ok r w v }
 
   -- what the device of a bay had part in
   abbrev pub by_bay0 : World M N → Outcome M → Ends M N
-  by_bay0 w o = record { answer = told (passed_up InRing (λ a. a) o.answer); world = record { host = o.host; memory = o.memory; bay0 = o.device; bay1 = w.bay1 } }
+  by_bay0 w o = record { answer = told (passed OfRing o.answer); world = record { host = o.host; memory = o.memory; bay0 = o.device; bay1 = w.bay1 } }
 
   abbrev pub by_bay1 : World M N → Outcome N → Ends M N
-  by_bay1 w o = record { answer = told (passed_up InRing (λ a. a) o.answer); world = record { host = o.host; memory = o.memory; bay0 = w.bay0; bay1 = o.device } }
+  by_bay1 w o = record { answer = told (passed OfRing o.answer); world = record { host = o.host; memory = o.memory; bay0 = w.bay0; bay1 = o.device } }
 
 module _ {M N : Type 0} (R : Rules M) (S : Rules N) where
   abbrev pub served_in : Bay → ℕ → World M N → Ends M N
@@ -120,45 +116,45 @@ module _ {M N : Type 0} (R : Rules M) (S : Rules N) (pick : ℕ → ℕ) where
   -- the call at the world w, if the host itself does not refuse it; `pick` decides which pending port next answers
   unfoldable pub proceeds : World M N → Call → Ends M N
   proceeds w (Take d f) =
-      by_rules InFrame (take_rules w.host.frames f) w Done
+      by_rules OfFrame (take_rules w.host.frames f) w Done
       (with_memory (zeroed f w.memory) (with_host (with_frames (with_owner f (Some d) w.host.frames) w.host) w))
   proceeds w (Give d f) =
-      by_rules InFrame (give_rules w.host.frames (pins w.host.grants.records f) d f) w Done
+      by_rules OfFrame (give_rules w.host.frames (pins w.host.grants.records f) d f) w Done
       (with_host (with_frames (with_owner f None w.host.frames) w.host) w)
   proceeds w (Load d f o n) =
       let r : Result Unit FrameFault = refuse_first (access_rules w.host.frames (maps_frame w.host.grants d f) d f o n) (Ok tt) in
-      record { answer = record { result = passed_up InFrame (λ _. Length n) r; filled = after_ok r [] (λ _. bytes_at (4096 * f + o) n w.memory) }; world = w }
+      record { answer = record { result = passed OfFrame (granting (λ _. Length n) r); filled = after_ok r [] (λ _. bytes_at (4096 * f + o) n w.memory) }; world = w }
   proceeds w (Store d f o bs) =
-      by_rules InFrame (access_rules w.host.frames (writes_frame w.host.grants d f) d f o (length bs)) w (Length (length bs))
+      by_rules OfFrame (access_rules w.host.frames (writes_frame w.host.grants d f) d f o (length bs)) w (Length (length bs))
       (with_memory (placed (4096 * f + o) bs w.memory) w)
   proceeds w (Entry d n fl to f) =
-      by_rules InGrant (entry_rules n) w Done
+      by_rules OfGrant (entry_rules n) w Done
       (with_host (with_grants (with_entry (place d n) (record { flags = fl; domid = to; frame = f }) w.host.grants) w.host) w)
   proceeds w (End d n) =
-      by_rules InGrant (end_rules w.host.grants d n) w Done
+      by_rules OfGrant (end_rules w.host.grants d n) w Done
       (with_host (with_grants (with_entry (place d n) (with_flags 0 (entry_at w.host.grants (place d n))) w.host.grants) w.host) w)
   proceeds w (Map d o n md) =
-      by_verdict InGrant (map_verdict w.host.frames w.host.grants d o n md) w (λ g. Handle g.handle)
+      by_verdict OfGrant (map_verdict w.host.frames w.host.grants d o n md) w (λ g. Handle g.handle)
       (λ g. with_host (with_grants (pin d g.handle g.mapping w.host.grants) w.host) w)
   proceeds w (Unmap d h) =
-      by_verdict InGrant (unmap_verdict w.host.grants d h) w (λ _. Done)
+      by_verdict OfGrant (unmap_verdict w.host.grants d h) w (λ _. Done)
       (λ p. with_host (with_grants (unpin d h p w.host.grants) w.host) w)
   proceeds w (Send d p) =
-      by_rules InEvent (send_rules w.host d p) w Done
+      by_rules OfEvent (send_rules w.host d p) w Done
       (with_host (with_events (marked 0 p w.host.events) w.host) w)
   proceeds w (Next d) =
       let p : ℕ = next_port pick (word w.host.events d) in
       record { answer = told (Ok (Port p)); world = cond (word w.host.events d == 0) w (with_host (with_events (dropped d p w.host.events) w.host) w) }
   proceeds w (Connect d k n) =
-      by_verdict InRing (connect_verdict w.host d k n) w (λ _. Connected (new_number w.host))
+      by_verdict OfRing (connect_verdict w.host d k n) w (λ _. Connected (new_number w.host))
       (λ g. with_memory (connected_memory g w.memory) (with_host (connected d k g w.host) w))
   proceeds w (Serve c) = served_in R S (serving_bay (connection_at w.host.rings c)) c w
   proceeds w (Complete b) =
       either_of (refuse_first {T = Unit} (bay_rules b) (Ok tt))
       (λ _. completed_in R S (bay_numbered b) w)
-      (λ e. record { answer = told (Err (InRing e)); world = w })
+      (λ e. record { answer = told (Err (OfRing e)); world = w })
   proceeds w (Disconnect c) =
-      by_verdict InRing (disconnect_verdict w.host c) w (λ _. Done)
+      by_verdict OfRing (disconnect_verdict w.host c) w (λ _. Done)
       (λ k. with_host (disconnected c k w.host) w)
 
   -- what the host itself refuses, before the call's own rules

@@ -2,7 +2,7 @@
 use Rattle.std.specs.Prelude.{◌≡◌, List, [], ◌∷◌, ◌++◌, ℕ, pos, negsuc}
 use Rattle.layout.specs.Layout.{le}
 use Rattle.answer.specs.Parts.{plain}
-use Rattle.answer.specs.declared.parts.Layer.TheVariants.{OfFrame, OfGrant, OfRing}
+use Rattle.answer.specs.declared.parts.Layer.TheVariants.{InFrame, InGrant, InRing}
 use Rattle.answer.specs.declared.parts.AnswerParts.{AnswerParts}
 use Rattle.law.specs.Call.{Call, Take, Give, Load, Store, Entry, End, Map, Send, Next, Connect, Serve, Complete, Disconnect}
 use Rattle.law_runs.specs.Tried.{answers, loaded, refused, segment, head}
@@ -61,7 +61,7 @@ write_and_read_answers = with_disk_answers (
     ∷ plain 32
     ∷ plain 4
     ∷ plain 1
-    ∷ refused OfFrame 40
+    ∷ refused InFrame 40
     ∷ plain 1
     ∷ plain 5
     ∷ plain 16
@@ -129,14 +129,14 @@ packet_answers =
     ∷ plain 1
     ∷ plain 0
     ∷ plain 1
-    ∷ refused OfFrame 40
+    ∷ refused InFrame 40
     ∷ plain 1
     ∷ plain 1
     ∷ plain 0
     ∷ plain 4
     ∷ plain 4
     ∷ plain 8
-    ∷ refused OfFrame 7
+    ∷ refused InFrame 7
     ∷ plain 1
     ∷ plain 2
     ∷ plain 0
@@ -172,7 +172,7 @@ abbrev pub second_refused_answers : List AnswerParts
 second_refused_answers = with_disk_answers (
     plain 40
     ∷ plain 4
-    ∷ record { answer = pos 2; layer = OfGrant; detail = negsuc 0; place = 1 }
+    ∷ record { answer = pos 2; layer = InGrant; detail = negsuc 0; place = 1 }
     ∷ plain 16
     ∷ plain 4
     ∷ plain 0
@@ -212,17 +212,17 @@ withdrawn_answers = with_disk_answers (
     plain 32
     ∷ plain 4
     ∷ plain 1
-    ∷ refused OfGrant 40
+    ∷ refused InGrant 40
     ∷ plain 0
-    ∷ refused OfFrame 40
-    ∷ refused OfFrame 40
-    ∷ refused OfRing 40
+    ∷ refused InFrame 40
+    ∷ refused InFrame 40
+    ∷ refused InRing 40
     ∷ plain 1
     ∷ plain 3
     ∷ plain 16
     ∷ plain 0
     ∷ plain 0
-    ∷ refused OfGrant 0
+    ∷ refused InGrant 0
     ∷ [])
 
 -- The disk's nines stand in sector 2 of frame 1, which is still domain 1's, and the response has id 7, operation 0 and

@@ -12,12 +12,12 @@ pub fn layer_name(layer: Layer) -> &'static str
 {
     match layer {
         Layer::NoLayer => "none",
-        Layer::OfHost => "host",
-        Layer::OfFrame => "frame",
-        Layer::OfGrant => "grant",
-        Layer::OfEvent => "event",
-        Layer::OfDevice => "device",
-        Layer::OfRing => "ring",
+        Layer::InHost => "host",
+        Layer::InFrame => "frame",
+        Layer::InGrant => "grant",
+        Layer::InEvent => "event",
+        Layer::InDevice => "device",
+        Layer::InRing => "ring",
     }
 }
 

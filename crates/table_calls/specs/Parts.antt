@@ -1,5 +1,5 @@
 -- What a call on the tables answers and leaves, by what decides it.
-use Rattle.std.specs.Prelude.{◌≡◌, ℕ, ◌+◌, ◌*◌, cond, List, length, take, drop, Ok, Err, Result, ◌==◌}
+use Rattle.std.specs.Prelude.{◌≡◌, ℕ, ◌+◌, ◌*◌, cond, List, length, Ok, Err, Result, ◌==◌}
 use Rattle.rules.specs.Refusal.{Rule, refuse_first, and_then, passed, granting, after_ok}
 use Rattle.frame.specs.Access.{access_rules}
 use Rattle.frame.specs.Memory.{bytes_at}
@@ -7,17 +7,12 @@ use Rattle.frame.specs.declared.fault.FrameFault.{FrameFault}
 use Rattle.grant.specs.Tables.{maps_frame}
 use Rattle.event.specs.Pending.{pick, word, dropped}
 use Rattle.answer.specs.declared.fault.HostFault.{HostFault}
-use Rattle.answer.specs.declared.fault.HostFault.TheVariants.{InFrame}
+use Rattle.answer.specs.declared.fault.HostFault.TheVariants.{OfFrame}
 use Rattle.answer.specs.declared.reply.Answer.{Answer}
 use Rattle.answer.specs.declared.reply.Answer.TheVariants.{Length}
 use Rattle.backend.specs.declared.tables.Tables.{Tables}
 use Rattle.law.specs.World.{with_events}
 use Rattle.law.specs.Step.{guest_rules, next_port}
-
--- whether there is a refusal, and which
-abbrev pub allowed : {T E : Type 0} → Result T E → Result Unit E
-allowed (Ok t) = Ok tt
-allowed (Err e) = Err e
 
 -- the host's own rules first, then what a layer below says
 abbrev pub heard : {T E : Type 0} → List (Rule HostFault) → (E → HostFault) → Result T E → Result T HostFault
@@ -36,20 +31,13 @@ load_verdict H d f offset n = refuse_first (access_rules H.frames (maps_frame H.
 
 -- a part of a frame was copied into the buffer, or the buffer left as it was
 pub record Loaded (H : Tables) (m : List ℕ) (d f offset : ℕ) (buffer : List ℕ) (r : Result Answer HostFault) (buffer' : List ℕ) : Type 0 where
-  pub answer : r ≡ granting (λ _. Length (length buffer)) (heard (guest_rules H m d) InFrame (load_verdict H d f offset (length buffer)))
-  pub filled : buffer' ≡ after_ok (heard (guest_rules H m d) InFrame (load_verdict H d f offset (length buffer))) buffer (λ _. bytes_at (4096 * f + offset) (length buffer) m)
+  pub answer : r ≡ granting (λ _. Length (length buffer)) (heard (guest_rules H m d) OfFrame (load_verdict H d f offset (length buffer)))
+  pub filled : buffer' ≡ after_ok (heard (guest_rules H m d) OfFrame (load_verdict H d f offset (length buffer))) buffer (λ _. bytes_at (4096 * f + offset) (length buffer) m)
 
 -- a refusal leaves the buffer as it was
 abbrev pub Untouched : Result Answer HostFault → List ℕ → List ℕ → Type 0
 Untouched (Ok a) before after = Unit {0}
 Untouched (Err e) before after = after ≡ before
-
--- n bytes of a frame were copied into the front of the buffer, or the buffer left as it was
-pub record FrontLoaded (H : Tables) (m : List ℕ) (d f offset n : ℕ) (buffer : List ℕ) (r : Result Answer HostFault) (buffer' : List ℕ) : Type 0 where
-  pub answer : r ≡ granting (λ _. Length n) (heard (guest_rules H m d) InFrame (load_verdict H d f offset n))
-  pub filled : take n buffer' ≡ after_ok (heard (guest_rules H m d) InFrame (load_verdict H d f offset n)) (take n buffer) (λ _. bytes_at (4096 * f + offset) n m)
-  pub rest : drop n buffer' ≡ drop n buffer
-  pub refused : Untouched r buffer buffer'
 
 -- the port that is picked of the domain d's is pending no more
 abbrev pub taken_up : ℕ → Tables → Tables

@@ -1,8 +1,7 @@
 // What the host itself refuses, before a call's own rules.
 ghost use Rattle.std.specs.Prelude.{◌≡◌, ◌*◌, length, IfOk, OnOk};
-ghost use Rattle.rules.specs.Refusal.{refuse_first};
+ghost use Rattle.rules.specs.Refusal.{refuse_first, granting};
 ghost use Rattle.law.specs.Step.{memory_rules, guest_rules, next_rules};
-ghost use Rattle.table_calls.specs.Parts.{allowed};
 
 use answer::HostFault;
 use backend::Tables;
@@ -19,9 +18,9 @@ pub fn fitting(tables: &Tables, memory: &[u8]) -> Result<(), HostFault>
     Ok(())
 }
 
-/// The domain that calls, if it is one that may call next.
+/// The caller of `next`: a guest or domain 0.
 pub fn domain(tables: &Tables, memory: &[u8], caller: u32) -> Result<Domain, HostFault>
-    ensures answer { allowed result ≡ refuse_first (next_rules tables.now memory.now caller) (Ok tt) }
+    ensures answer { granting {U = Unit} (λ _. tt) result ≡ refuse_first (next_rules tables.now memory.now caller) (Ok tt) }
     ensures caller { IfOk result (λ d. d.id ≡ caller) }
 {
     fitting(tables, memory)?;
@@ -30,7 +29,7 @@ pub fn domain(tables: &Tables, memory: &[u8], caller: u32) -> Result<Domain, Hos
 
 /// The guest that calls.
 pub fn guest(tables: &Tables, memory: &[u8], caller: u32) -> Result<Domain, HostFault>
-    ensures answer { allowed result ≡ refuse_first (guest_rules tables.now memory.now caller) (Ok tt) }
+    ensures answer { granting {U = Unit} (λ _. tt) result ≡ refuse_first (guest_rules tables.now memory.now caller) (Ok tt) }
     ensures caller { IfOk result (λ d. d.id ≡ caller) }
     ensures size { OnOk result (length memory.now ≡ 4096 * tables.now.frames.count) }
 {

@@ -6,7 +6,7 @@ ghost use Rattle.rules.specs.Refusal.{granting};
 ghost use Rattle.event.specs.Pending.{dropped};
 ghost use Rattle.grant.specs.Map.{grant_of};
 ghost use Rattle.connection.specs.Tables.{kind_numbered};
-ghost use Rattle.answer.specs.declared.fault.HostFault.TheVariants.{InRing};
+ghost use Rattle.answer.specs.declared.fault.HostFault.TheVariants.{OfRing};
 ghost use Rattle.answer.specs.declared.reply.Answer.TheVariants.{Done, Connected};
 ghost use Rattle.law.specs.Connect.{connect_verdict, new_number, connected, connected_memory, disconnect_verdict, disconnected};
 ghost use Rattle.law.specs.Step.{memory_rules, guest_rules};
@@ -68,7 +68,7 @@ pub fn connect(
     kind: u32,
     reference: u32,
 ) -> Result<Answer, HostFault>
-    ensures { GrantedBy (guest_rules tables.old memory.old caller) InRing (connect_verdict tables.old caller kind reference) (λ _. Connected (new_number tables.old)) tables.old memory.old (λ g. connected caller kind g tables.old) (λ g. connected_memory g memory.old) result tables.new memory.new }
+    ensures { GrantedBy (guest_rules tables.old memory.old caller) OfRing (connect_verdict tables.old caller kind reference) (λ _. Connected (new_number tables.old)) tables.old memory.old (λ g. connected caller kind g tables.old) (λ g. connected_memory g memory.old) result tables.new memory.new }
 {
     let domain = guest(tables, memory, caller)?;
     let offer = may_connect(tables, domain, kind, reference)?;
@@ -113,7 +113,7 @@ fn drop_end(events: &mut Events, guest: u8, port: Port)
 
 /// Domain 0 ends a connection that has no jobs: its page is unmapped, and both ends' marks are dropped.
 pub fn disconnect(tables: &mut Tables, memory: &[u8], number: u32) -> Result<Answer, HostFault>
-    ensures { GrantedBy (memory_rules tables.old memory.now) InRing (disconnect_verdict tables.old number) (λ _. Done) tables.old memory.now (λ k. disconnected number k tables.old) (λ _. memory.now) result tables.new memory.now }
+    ensures { GrantedBy (memory_rules tables.old memory.now) OfRing (disconnect_verdict tables.old number) (λ _. Done) tables.old memory.now (λ k. disconnected number k tables.old) (λ _. memory.now) result tables.new memory.now }
 {
     fitting(tables, memory)?;
     let (live, connection) = may_disconnect(tables, number)?;

@@ -1,9 +1,8 @@
 use Rattle.std.proofs.Common.{◌≡◌, [], map, take}
 use Rattle.event.specs.Pending.{pick}
-use Rattle.law.specs.Run.{Ran}
+use Rattle.law.specs.Run.{after_calls, Ran}
 use Rattle.host.specs.Calls.{call_of}
 use Rattle.host.specs.View.{fresh, seen}
-use Rattle.host.specs.Whole.{after_calls}
 use Rattle.host.proofs.whole.run.Given as goal
 
 abbrev pub invariant-loop-call : goal.invariant-loop-call

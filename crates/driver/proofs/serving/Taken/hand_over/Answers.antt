@@ -33,4 +33,4 @@ returns-in-Err g c =
     _ _ c.in-Err.fault _ _ _ _ (c.order_for-order.ensures ∙ ap (λ t. order_for t a) c.requires.ticket) c.accept.ensures c.in-Err.is
     (leaves_by _ _ _ _ _ _
     (ap₂ (λ f G. answered_now D n k q f (with_grants G H) m x) (sym (c.into.ensures ∙ ap (λ f. miss f 0) c.from.ensures)) (sym c.unpin_segments.ensures))
-    (answered-leaves D n k q c.into.result _ _ _ m x _ _ _ c.requires.live c.args.self.id c.args.self.operation c.answer_now.ensures.answer c.answer_now.ensures.after))
+    (answered-leaves D n k q c.into.result _ _ _ m x _ _ _ c.requires.live c.args.self.id c.args.self.operation c.refuse.ensures.answer c.refuse.ensures.after))

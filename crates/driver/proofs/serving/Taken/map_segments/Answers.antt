@@ -69,4 +69,4 @@ returns-in-Err g c =
     let grants = c.pin_segments-pinned.ensures.grants ∙ ap (λ j. (done j).grants) job in
     leaves_by _ _ _ _ _ _
     (ap₂ (λ (o : Option Miss) G. if_some o (handed_over D n k q a (done fresh) H m x) (λ f. answered_now D n k q f (with_grants G H) m x)) fault (sym grants))
-    (answered-leaves D n k q c.in-Err.miss _ _ _ m x _ _ _ c.requires.live c.args.self.id c.args.self.operation c.answer_now.ensures.answer c.answer_now.ensures.after)
+    (answered-leaves D n k q c.in-Err.miss _ _ _ m x _ _ _ c.requires.live c.args.self.id c.args.self.operation c.refuse.ensures.answer c.refuse.ensures.after)

@@ -4,7 +4,7 @@ use Rattle.std.proofs.lemmas.Bool.Decides.{nat_tests}
 use Rattle.rules.specs.Refusal.{either_of}
 use Rattle.event.specs.Pending.{pick}
 use Rattle.ring.specs.declared.fault.RingFault.TheVariants.{BadBay}
-use Rattle.answer.specs.declared.fault.HostFault.TheVariants.{InRing}
+use Rattle.answer.specs.declared.fault.HostFault.TheVariants.{OfRing}
 use Rattle.law.specs.Call.{Complete}
 use Rattle.law.specs.Step.{proceeds, told, completed_in, bay_numbered}
 use Rattle.host.specs.View.{seen}
@@ -42,9 +42,9 @@ returns-in_err-map_err g c =
     let b = g.B.Device in
     let n = g.N.Device in
     let w = seen c.args.self.now c.args.memory.now (b.meaning c.args.block.now) (n.meaning c.args.net.now) in
-    let refused : c.from_residual-in_err-map_err.result ≡ Err (InRing BadBay) = search rules in
+    let refused : c.from_residual-in_err-map_err.result ≡ Err (OfRing BadBay) = search rules in
     let above : 1 < c.args.bay = search rules in
     let past : ltb 1 c.args.bay ≡ true = search (rules, arith, nat_tests) in
     rw refused
     (kept_barred b.laws n.laws c.in_ok-fitting.ensures.answer
-    (ap (λ k. either_of (cond k (Err BadBay) (Ok tt)) (λ _. completed_in b.rules n.rules (bay_numbered c.args.bay) w) (λ e. record { answer = told (Err (InRing e)); world = w })) past))
+    (ap (λ k. either_of (cond k (Err BadBay) (Ok tt)) (λ _. completed_in b.rules n.rules (bay_numbered c.args.bay) w) (λ e. record { answer = told (Err (OfRing e)); world = w })) past))
