@@ -3,7 +3,7 @@ ghost use Rattle.std.specs.Prelude.{◌≤◌};
 
 use crate::apart::*;
 use abi::{GrantEntry, RingHeader};
-use blkif::{BlockRequest, BlockResponse};
+use blkif::{BlockRequest, BlockResponse, SEGMENTS};
 use layout::Coded;
 use netif::{ReceiveRequest, ReceiveResponse, SendRequest, SendResponse};
 use std::process::Abort;
@@ -62,107 +62,121 @@ const RECEIVE_REQUEST: [Field; 2] = [(0, 2), (4, 4)];
 
 const RECEIVE_RESPONSE: [Field; 4] = [(0, 2), (2, 2), (4, 2), (6, 2)];
 
-// Decodes each test message, has its fields compared with those of the decoder built apart, and writes it again.
-fn each_sample<M: Coded<N> + Copy, const N: usize, F: Fn(usize, &M, &[u8])>(
+/// A field as the codec gives it.
+enum Found {
+    Number(u64),
+    Status(i16),
+}
+
+fn number<T>(n: T) -> Found
+where
+    u64: From<T>,
+{
+    Found::Number(u64::from(n))
+}
+
+// Decodes each test message, compares each field k with that of the decoder built apart, and writes it again.
+fn each_sample<M: Coded<N> + Copy, const N: usize, F: Fn(&M, usize) -> Found>(
     rt: &impl Abort,
     fields: &[Field],
-    compare: F,
+    found: F,
 )
-    requires callable { F.IsAlwaysCallable compare }
+    requires callable { F.IsAlwaysCallable found }
     requires short { N ≤ 4096 }
 {
     for which in 0..samples(fields) {
         let mut b = [0u8; N];
         fill(&mut b, which, fields);
         let m = M::decode(&b);
-        compare(which, &m, &b);
+        for (k, field) in fields.iter().enumerate() {
+            match found(&m, k) {
+                Found::Number(n) => assert_eq!(rt; n, value(&b, *field), "{which}, field {k}"),
+                Found::Status(n) => {
+                    assert_eq!(rt; i64::from(n), signed(&b, field.0), "{which}, field {k}")
+                }
+            }
+        }
         check_covered(rt, which, &b, &m.encode(), fields);
     }
 }
 
 #[test]
 fn entries(rt: HostRuntime) {
-    each_sample(&rt, &ENTRY, |which, m: &GrantEntry, b| {
-        assert_eq!(rt; u64::from(m.flags), value(b, (0, 2)), "{which}");
-        assert_eq!(rt; u64::from(m.domid), value(b, (2, 2)), "{which}");
-        assert_eq!(rt; u64::from(m.frame), value(b, (4, 4)), "{which}");
+    each_sample(&rt, &ENTRY, |m: &GrantEntry, k| match k {
+        0 => number(m.flags),
+        1 => number(m.domid),
+        _ => number(m.frame),
     });
 }
 
 #[test]
 fn headers(rt: HostRuntime) {
-    each_sample(&rt, &HEADER, |which, m: &RingHeader, b| {
-        assert_eq!(rt; u64::from(m.req_prod), value(b, (0, 4)), "{which}");
-        assert_eq!(rt; u64::from(m.req_event), value(b, (4, 4)), "{which}");
-        assert_eq!(rt; u64::from(m.rsp_prod), value(b, (8, 4)), "{which}");
-        assert_eq!(rt; u64::from(m.rsp_event), value(b, (12, 4)), "{which}");
+    each_sample(&rt, &HEADER, |m: &RingHeader, k| match k {
+        0 => number(m.req_prod),
+        1 => number(m.req_event),
+        2 => number(m.rsp_prod),
+        _ => number(m.rsp_event),
     });
 }
 
+// A segment has three fields.
 #[test]
 fn block_requests(rt: HostRuntime) {
-    each_sample(&rt, &BLOCK_REQUEST, |which, m: &BlockRequest, b| {
-        assert_eq!(rt; u64::from(m.operation), value(b, (0, 1)), "{which}");
-        assert_eq!(rt; u64::from(m.count), value(b, (1, 1)), "{which}");
-        assert_eq!(rt; m.id, value(b, (8, 8)), "{which}");
-        assert_eq!(rt; m.sector, value(b, (16, 8)), "{which}");
-        for (i, s) in m.segments.iter().enumerate() {
-            let at = 24usize.saturating_add(i.saturating_mul(8));
-            assert_eq!(rt; u64::from(s.reference), value(b, (at, 4)), "{which}");
-            assert_eq!(rt;
-                u64::from(s.first),
-                value(b, (at.saturating_add(4), 1)),
-                "{}",
-                which
-            );
-            assert_eq!(rt;
-                u64::from(s.last),
-                value(b, (at.saturating_add(5), 1)),
-                "{}",
-                which
-            );
+    each_sample(&rt, &BLOCK_REQUEST, |m: &BlockRequest, k| match k {
+        0 => number(m.operation),
+        1 => number(m.count),
+        2 => number(m.id),
+        3 => number(m.sector),
+        _ => {
+            let k = k.wrapping_sub(4);
+            let s = m.segments[k / 3 % SEGMENTS];
+            match k % 3 {
+                0 => number(s.reference),
+                1 => number(s.first),
+                _ => number(s.last),
+            }
         }
     });
 }
 
 #[test]
 fn block_responses(rt: HostRuntime) {
-    each_sample(&rt, &BLOCK_RESPONSE, |which, m: &BlockResponse, b| {
-        assert_eq!(rt; m.id, value(b, (0, 8)), "{which}");
-        assert_eq!(rt; u64::from(m.operation), value(b, (8, 1)), "{which}");
-        assert_eq!(rt; i64::from(m.status), signed(b, 10), "{which}");
+    each_sample(&rt, &BLOCK_RESPONSE, |m: &BlockResponse, k| match k {
+        0 => number(m.id),
+        1 => number(m.operation),
+        _ => Found::Status(m.status),
     });
 }
 
 #[test]
 fn send_requests(rt: HostRuntime) {
-    each_sample(&rt, &SEND_REQUEST, |which, m: &SendRequest, b| {
-        assert_eq!(rt; u64::from(m.reference), value(b, (0, 4)), "{which}");
-        assert_eq!(rt; u64::from(m.offset), value(b, (4, 2)), "{which}");
-        assert_eq!(rt; u64::from(m.flags), value(b, (6, 2)), "{which}");
-        assert_eq!(rt; u64::from(m.id), value(b, (8, 2)), "{which}");
-        assert_eq!(rt; u64::from(m.size), value(b, (10, 2)), "{which}");
+    each_sample(&rt, &SEND_REQUEST, |m: &SendRequest, k| match k {
+        0 => number(m.reference),
+        1 => number(m.offset),
+        2 => number(m.flags),
+        3 => number(m.id),
+        _ => number(m.size),
     });
 }
 
 #[test]
 fn send_responses(rt: HostRuntime) {
-    each_sample(&rt, &SEND_RESPONSE, |which, m: &SendResponse, b| {
-        assert_eq!(rt; u64::from(m.id), value(b, (0, 2)), "{which}");
-        assert_eq!(rt; i64::from(m.status), signed(b, 2), "{which}");
+    each_sample(&rt, &SEND_RESPONSE, |m: &SendResponse, k| match k {
+        0 => number(m.id),
+        _ => Found::Status(m.status),
     });
 }
 
 #[test]
 fn receive_messages(rt: HostRuntime) {
-    each_sample(&rt, &RECEIVE_REQUEST, |which, m: &ReceiveRequest, b| {
-        assert_eq!(rt; u64::from(m.id), value(b, (0, 2)), "{which}");
-        assert_eq!(rt; u64::from(m.reference), value(b, (4, 4)), "{which}");
+    each_sample(&rt, &RECEIVE_REQUEST, |m: &ReceiveRequest, k| match k {
+        0 => number(m.id),
+        _ => number(m.reference),
     });
-    each_sample(&rt, &RECEIVE_RESPONSE, |which, m: &ReceiveResponse, b| {
-        assert_eq!(rt; u64::from(m.id), value(b, (0, 2)), "{which}");
-        assert_eq!(rt; u64::from(m.offset), value(b, (2, 2)), "{which}");
-        assert_eq!(rt; u64::from(m.flags), value(b, (4, 2)), "{which}");
-        assert_eq!(rt; i64::from(m.status), signed(b, 6), "{which}");
+    each_sample(&rt, &RECEIVE_RESPONSE, |m: &ReceiveResponse, k| match k {
+        0 => number(m.id),
+        1 => number(m.offset),
+        2 => number(m.flags),
+        _ => Found::Status(m.status),
     });
 }

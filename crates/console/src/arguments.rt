@@ -3,18 +3,18 @@ ghost use Rattle.console.specs.Usage.{UsageWanted};
 
 use thiserror::Error;
 
-/// A first argument that is not --help.
+/// Arguments that are not --help alone.
 #[derive(Clone, Copy, Debug, Error)]
 #[error("expected no arguments, or --help; the script is read from standard input")]
 pub struct Arguments;
 
-/// Whether only the usage is asked for: by --help as the first argument, and not where there is none.
-pub fn wants_usage(first: Option<&str>) -> Result<bool, Arguments>
-    ensures { UsageWanted first.entry result }
+/// Whether the usage is asked for, by --help alone; no arguments ask for a run.
+pub fn wants_usage(first: Option<&str>, second: Option<&str>) -> Result<bool, Arguments>
+    ensures { UsageWanted first.entry second.entry result }
 {
-    match first {
-        None => Ok(false),
-        Some("--help") => Ok(true),
-        Some(_) => Err(Arguments),
+    match (first, second) {
+        (None, _) => Ok(false),
+        (Some("--help"), None) => Ok(true),
+        (Some(_), _) => Err(Arguments),
     }
 }

@@ -5,4 +5,4 @@ mod arguments;
 mod script;
 
 pub use arguments::{Arguments, wants_usage};
-pub use script::{FromLine, Script};
+pub use script::{FromLine, Script, Unread};

@@ -1,15 +1,34 @@
 // The script on standard input.
-ghost use Rattle.std.specs.Prelude.{◌≡◌, ℕ, List, Option, Result, string_bytes, []};
+ghost use Rattle.std.specs.Prelude.{◌≡◌, ℕ, List, Option, Result, IfOk, string_bytes, []};
 ghost use Rattle.std.specs.Iterator.{at_most};
 ghost use Rattle.console.specs.Reading.{known_bytes, lines_ahead, ReadsOn};
 
 use std::alloc::Global;
-use std::io::{self, BufRead, Lines, StdinLock};
+use std::io::{self, BufRead, BufReader, ErrorKind, Lines, StdinLock};
 use std::marker::PhantomData;
+use thiserror::Error;
+
+/// Why a line could not be read.
+#[derive(Debug, Drop, Error)]
+pub enum Unread {
+    #[error("expected text in UTF-8")]
+    NotText,
+    #[error(transparent)]
+    System(io::Error),
+}
+
+impl From<io::Error> for Unread {
+    fn from(error: io::Error) -> Unread {
+        match error.kind() {
+            ErrorKind::InvalidData => Unread::NotText,
+            _ => Unread::System(error),
+        }
+    }
+}
 
 /// What a line of a script asks for.
 pub trait FromLine: Sized {
-    type Err: From<io::Error>;
+    type Err: From<Unread>;
 
     // What the bytes of a line may be read as.
     ghost reads: { List ℕ → Result (Option Self) Self.Err → Type 0 };
@@ -20,40 +39,39 @@ pub trait FromLine: Sized {
 }
 
 /// The lines that are still to come, and the one that was read last.
+// A lock on standard input reads a byte at a time from a pipe: hence a buffer, which gives a line as soon as it is
+// there.
 #[derive(Drop)]
-pub struct Script<T, R = StdinLock<'static>> {
+pub struct Script<T, R = BufReader<StdinLock<'static>>> {
     /// The system, in which a line is read.
     pub rt: HostRuntime,
     lines: Lines<R>,
     /// The line that was read last.
     pub text: String,
-    /// How many lines were read.
-    pub read: u64,
-    /// How many lines came: those that were read, and those that could not be.
+    /// How many lines came, with those that could not be read: the number of the last one.
     pub came: u64,
     asked: PhantomData<T>,
 }
 
 impl<T> Script<T> {
-    /// The script on standard input, of which no line was read.
-    pub fn new(rt: HostRuntime) -> Script<T>
-        ensures { (result.read ≡ 0) × (result.came ≡ 0) × (string_bytes result.text ≡ []) }
+    /// The script on standard input, of which no line came.
+    pub fn new(rt: HostRuntime) -> io::Result<Script<T>>
+        ensures { IfOk result (λ s. (s.came ≡ 0) × (string_bytes s.text ≡ [])) }
     {
-        Script::over(rt, rt.reader())
+        Ok(Script::over(rt, BufReader::new(rt.alloc(), rt.reader())?))
     }
 }
 
 impl<T, R: BufRead + Drop> Script<T, R> {
-    /// A script that a reader gives, of which no line was read.
+    /// A script that a reader gives, of which no line came.
     pub fn over(rt: HostRuntime, reader: R) -> Script<T, R>
-        ensures counts { (result.read ≡ 0) × (result.came ≡ 0) × (string_bytes result.text ≡ []) }
+        ensures counts { (result.came ≡ 0) × (string_bytes result.text ≡ []) }
         ensures bytes { known_bytes R.remaining result ≡ R.remaining reader }
     {
         Script {
             rt,
             lines: reader.lines(rt.alloc()),
             text: String::new(rt.alloc()),
-            read: 0,
             came: 0,
             asked: PhantomData,
         }
@@ -75,13 +93,12 @@ impl<T: FromLine, R: BufRead + Drop> Iterator for Script<T, R> {
             match line {
                 Ok(text) => {
                     self.text = text;
-                    self.read = self.read.saturating_add(1);
                     let asked = T::from_line(self.rt.alloc(), self.text.as_str());
                     if let Some(asked) = asked.transpose() {
                         return Some(asked);
                     }
                 }
-                Err(error) => return Some(Err(T::Err::from(error))),
+                Err(error) => return Some(Err(T::Err::from(Unread::from(error)))),
             }
         }
         None

@@ -14,13 +14,13 @@ use std::str::FromStr;
 const MOST_FILLED: u32 = (MOST_SECTORS * SECTOR) as u32;
 
 // What is expected of a ticket, of a disk's size, of a length or an offset, and of a place.
-const TICKET: &str = "a ticket is a number from 0 to 255";
+const TICKET: &str = "expected a ticket, 0 to 255";
 
-const SECTORS: &str = "a number of sectors has 32 bits";
+const SECTORS: &str = "expected a number of sectors, 0 to 4294967295";
 
-const SIZE: &str = "a length or an offset is a number of 32 bits";
+const SIZE: &str = "expected a length or an offset, 0 to 4294967295";
 
-const PLACE: &str = "a place is a number of 64 bits";
+const PLACE: &str = "expected a place, 0 to 18446744073709551615";
 
 /// A device to begin with.
 #[derive(Clone, Copy)]
@@ -40,6 +40,10 @@ fn parsed<T: FromStr>(word: &str, expected: &'static str) -> Result<T, Failure>
 where
     T::Err: Drop,
 {
+    // parse would take a plus
+    if word.starts_with('+') {
+        return Err(Failure::Line(expected));
+    }
     word.parse().map_err(|_| Failure::Line(expected))
 }
 
@@ -47,17 +51,14 @@ fn direction(word: &str) -> Result<Direction, Failure> {
     match word {
         "in" => Ok(Direction::Inward),
         "out" => Ok(Direction::Outward),
-        _ => Err(Failure::Line("a direction is in or out")),
+        _ => Err(Failure::Line("expected a direction, in or out")),
     }
 }
 
 fn bytes(heap: Global, word: &str) -> Result<Vec<u8>, Failure> {
-    if !word.bytes().all(|c| c.is_ascii_hexdigit()) {
-        return Err(Failure::Line("bytes are hexadecimal digits"));
-    }
     hex::decode(heap, word).map_err(|error| match error {
         FromHexError::OutOfMemory => Failure::Memory(AllocError),
-        _ => Failure::Line("bytes have two hexadecimal digits each"),
+        _ => Failure::Line("expected bytes of two hexadecimal digits each"),
     })
 }
 

@@ -27,7 +27,7 @@ Drives a device by the lines of a script, and prints each line with its answer.
   disk SECTORS | wire                       a new device
   fits in|out PLACE LENGTH | full | ready   what the device says of itself
   accept TICKET in|out PLACE LENGTH         an order
-  fill TICKET AT LENGTH | drain TICKET AT BYTES
+  fill TICKET AT LENGTH | drain TICKET AT [BYTES]
   done TICKET
 Numbers are decimal, bytes hexadecimal; a # begins a comment.";
 
@@ -110,11 +110,8 @@ fn start(script: &mut Script, start: Start) -> Result<Option<Start>, Failure>
     }
 }
 
-fn run(script: &mut Script) -> Result<(), Failure> {
-    let first = env::args(&script.rt)?.nth(1);
-    if wants_usage(first.as_deref())? {
-        return Ok(println!(script.rt; "{USAGE}")?);
-    }
+// Drives one device after the other until the script ends.
+fn run_script(script: &mut Script) -> Result<(), Failure> {
     let mut next = wait(script)?;
     while let Some(device) = next {
         next = start(script, device)?;
@@ -122,15 +119,27 @@ fn run(script: &mut Script) -> Result<(), Failure> {
     Ok(())
 }
 
+// Prints the usage, or runs the script; `line` is then the number of the line that came last.
+fn run(rt: HostRuntime, line: &mut u64) -> Result<(), Failure> {
+    let mut words = env::args(&rt)?;
+    let (first, second) = (words.nth(1), words.next());
+    if wants_usage(first.as_deref(), second.as_deref())? {
+        return Ok(println!(rt; "{USAGE}")?);
+    }
+    let mut script = Script::new(rt)?;
+    let ran = run_script(&mut script);
+    *line = script.came;
+    ran
+}
+
 fn main(rt: HostRuntime) -> ExitCode {
-    let mut script = Script::new(rt);
-    match run(&mut script) {
+    let mut line = 0;
+    match run(rt, &mut line) {
         Ok(()) => ExitCode::SUCCESS,
         Err(failure) => {
-            let n = script.read;
-            let _ = match n {
-                0 => eprintln!(rt; "devicectl: {failure}"),
-                _ => eprintln!(rt; "devicectl: line {n}: {failure}"),
+            let _ = match (&failure, line) {
+                (Failure::System(_), _) | (_, 0) => eprintln!(rt; "devicectl: {failure}"),
+                (_, n) => eprintln!(rt; "devicectl: line {n}: {failure}"),
             };
             ExitCode::FAILURE
         }

@@ -5,7 +5,7 @@ ghost use Rattle.std.specs.List.{slice_get};
 ghost use Rattle.queue.specs.Line.{items, slots_of, turned, first, is_full, StandsFirst, Pushed, Popped};
 
 use crate::QueueFault;
-use crate::slots::place;
+use crate::slots::{place, put};
 
 /// A first-in-first-out line over lent slots.
 // A start and a count, since the slots are the caller's. No ghost field: every value of `head` and `len` means
@@ -117,7 +117,7 @@ impl<'a, T: Copy> Queue<'a, T> {
         }
         let head = self.start();
         let end = place(head, len, size);
-        self.slots[end] = *item;
+        put(self.slots, end, item);
         self.head = head;
         self.len = len + 1;
         Ok(())

@@ -1,5 +1,5 @@
-// Places on a ring of slots.
-ghost use Rattle.std.specs.Prelude.{◌≡◌, ◌+◌, ◌-◌, ◌<◌, ◌≤◌};
+// Places on a ring of slots, and a write into one of them.
+ghost use Rattle.std.specs.Prelude.{◌≡◌, ◌+◌, ◌-◌, ◌<◌, ◌≤◌, length, slice_set};
 ghost use Rattle.queue.specs.Line.{along};
 
 /// The place `step` slots after `head`, round a ring of `size` slots.
@@ -14,4 +14,12 @@ pub(crate) fn place(head: usize, step: usize, size: usize) -> usize
     } else {
         step - left
     }
+}
+
+/// Copies the item into the slot `at`.
+pub(crate) fn put<T: Copy>(slots: &mut [T], at: usize, item: &T)
+    requires { at < length slots.old }
+    ensures { slots.new ≡ slice_set slots.old at item.now }
+{
+    slots[at] = *item;
 }

@@ -1,5 +1,5 @@
 // Why scanhost ends with status 1.
-use console::Arguments;
+use console::{Arguments, Unread};
 use script::LineError;
 use std::alloc::AllocError;
 use std::io;
@@ -9,12 +9,15 @@ use thiserror::Error;
 pub(crate) enum Failure {
     #[error(transparent)]
     Line(#[from] LineError),
+    #[error(transparent)]
+    Unread(#[from] Unread),
     #[error("there is no host yet: expected start FRAMES before any call")]
     NotStarted,
     #[error("the host was started: expected a call, and no disk or start")]
     Late,
     #[error(transparent)]
     Arguments(#[from] Arguments),
+    // Arguments that cannot be had, or an answer that cannot be written: no line is to blame.
     #[error(transparent)]
     System(#[from] io::Error),
     #[error("out of memory")]

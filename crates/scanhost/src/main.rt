@@ -35,26 +35,27 @@ load follow in hexadecimal.
   disconnect CONNECTION
 Numbers are decimal, bytes hexadecimal; a # begins a comment.";
 
-fn run(script: &mut Script) -> Result<(), Failure> {
-    let first = env::args(&script.rt)?.nth(1);
-    if wants_usage(first.as_deref())? {
-        return Ok(println!(script.rt; "{USAGE}")?);
+// Prints the usage, or runs the script; `line` is then the number of the line that came last.
+fn run(rt: HostRuntime, line: &mut u64) -> Result<(), Failure> {
+    let mut words = env::args(&rt)?;
+    let (first, second) = (words.nth(1), words.next());
+    if wants_usage(first.as_deref(), second.as_deref())? {
+        return Ok(println!(rt; "{USAGE}")?);
     }
-    match setup::start(script)? {
-        Some(mut machine) => running::drive(script, &mut machine),
-        None => Ok(()),
-    }
+    let mut script = Script::new(rt)?;
+    let ran = setup::start(&mut script);
+    *line = script.came;
+    ran
 }
 
 fn main(rt: HostRuntime) -> ExitCode {
-    let mut script = Script::new(rt);
-    match run(&mut script) {
+    let mut line = 0;
+    match run(rt, &mut line) {
         Ok(()) => ExitCode::SUCCESS,
         Err(failure) => {
-            let n = script.came;
-            let _ = match n {
-                0 => eprintln!(rt; "scanhost: {failure}"),
-                _ => eprintln!(rt; "line {n}: {failure}"),
+            let _ = match (&failure, line) {
+                (Failure::System(_), _) | (_, 0) => eprintln!(rt; "scanhost: {failure}"),
+                (_, n) => eprintln!(rt; "line {n}: {failure}"),
             };
             ExitCode::FAILURE
         }

@@ -1,7 +1,6 @@
 // The calls, made one after the other on the machine.
 use crate::failure::Failure;
 use crate::input::{Asked, Script, print_answer};
-use crate::setup::Machine;
 use answer::{Answer, HostFault, parts_of};
 use device::{Device, Order};
 use disk::Disk;
@@ -58,19 +57,24 @@ fn make<B: Device, N: Device>(
     print_answer(script, parts_of(answer), filled(&call, answer, buffer))
 }
 
-/// Makes the script's calls until it ends, with a disk in bay 0 and the wire in bay 1.
-pub(crate) fn drive(script: &mut Script, machine: &mut Machine) -> Result<(), Failure> {
+/// Makes the script's calls until it ends, with a disk of these bytes in bay 0 and the wire in bay 1.
+pub(crate) fn drive(
+    script: &mut Script,
+    host: &mut Host,
+    memory: &mut [u8],
+    disk: &mut [u8],
+) -> Result<(), Failure> {
     let mut orders = [Order::default(); CAPACITY];
     let mut packets = [Packet::new(); WAITING];
-    let mut disk = Disk::new(machine.disk.as_mut_slice(), &mut orders);
+    let mut disk = Disk::new(disk, &mut orders);
     let mut wire = Wire::new(&mut packets);
     let mut buffer = [0u8; FRAME_SIZE];
     while let Some(asked) = script.next() {
         let Asked(command) = asked?;
         make(
             script,
-            &mut machine.host,
-            machine.memory.as_mut_slice(),
+            host,
+            memory,
             &mut disk,
             &mut wire,
             &command,

@@ -1,6 +1,7 @@
 // The lines before the first call: they set the machine up.
 use crate::failure::Failure;
 use crate::input::{Script, print_answer};
+use crate::running::drive;
 use answer::{Answer, HostFault, parts_of};
 use device::Order;
 use disk::sectors::{MOST_SECTORS, SECTOR};
@@ -13,14 +14,6 @@ use std::alloc::{AllocError, Global};
 
 // A disk has this many sectors where no line says otherwise.
 const SECTORS: u32 = MOST_SECTORS as u32;
-
-/// The host with its memory, and the bytes of the disk.
-#[derive(Drop)]
-pub(crate) struct Machine {
-    pub(crate) host: Host,
-    pub(crate) memory: Vec<u8>,
-    pub(crate) disk: Vec<u8>,
-}
 
 // Bytes for so many sectors or frames. One more than the most is refused, so no larger memory is needed to be refused.
 fn zeros(heap: Global, count: u32, most: usize, size: usize) -> Result<Vec<u8>, AllocError> {
@@ -49,31 +42,31 @@ fn change_disk(script: &Script, disk: &mut Vec<u8>, count: u32) -> Result<(), Fa
     Ok(())
 }
 
-// A host and its memory, or nothing where they are refused.
-fn try_start(script: &Script, count: u32) -> Result<Option<(Host, Vec<u8>)>, Failure> {
-    let memory = zeros(script.rt.alloc(), count, FRAMES, FRAME_SIZE)?;
-    let started = Host::start(count, memory.as_slice());
-    let answer = started
+// What a start answers.
+fn answer_of(started: &Result<Host, HostFault>) -> Result<Answer, HostFault> {
+    started
         .as_ref()
         .map(|_| Answer::Done)
-        .map_err(|fault| *fault);
-    print_answer(script, parts_of(answer), &[])?;
-    Ok(started.ok().map(|host| (host, memory)))
+        .map_err(|fault| *fault)
 }
 
-/// Reads lines until a host has started; nothing where the script ends before. A refused line may be tried again.
-pub(crate) fn start(script: &mut Script) -> Result<Option<Machine>, Failure> {
+/// Reads lines until a host has started, and then makes the calls behind. A refused line may be tried again.
+// A host is large: it stays where it was started, and is lent.
+pub(crate) fn start(script: &mut Script) -> Result<(), Failure> {
     let mut disk = sectors(script.rt.alloc(), SECTORS)?;
     while let Some(asked) = script.next() {
         match asked?.0 {
             Command::Disk { sectors: count } => change_disk(script, &mut disk, count)?,
             Command::Start { frames: count } => {
-                if let Some((host, memory)) = try_start(script, count)? {
-                    return Ok(Some(Machine { host, memory, disk }));
+                let mut memory = zeros(script.rt.alloc(), count, FRAMES, FRAME_SIZE)?;
+                let mut started = Host::start(count, memory.as_slice());
+                print_answer(script, parts_of(answer_of(&started)), &[])?;
+                if let Ok(host) = &mut started {
+                    return drive(script, host, memory.as_mut_slice(), disk.as_mut_slice());
                 }
             }
             Command::Call(_) | Command::Store { .. } => return Err(Failure::NotStarted),
         }
     }
-    Ok(None)
+    Ok(())
 }

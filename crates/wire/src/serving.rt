@@ -10,12 +10,10 @@ use crate::Wire;
 use crate::hand::CAPACITY;
 use crate::packet::LONGEST;
 use crate::packets::Packets;
+use abi::PAGE_SIZE;
 use device::row::copy_row;
 use device::turn::{on_turn, part_on_turn};
 use device::{Device, DeviceFault, Direction, Order};
-
-/// Bytes that an inward order has room for.
-pub const FRAME: u32 = 4096;
 
 /// Carries out the end of an order that is ready: its status, and what waits then.
 fn finish(packets: &mut Packets<'_>, order: Order) -> i16
@@ -80,7 +78,7 @@ impl<'a> Device for Wire<'a> {
             return false;
         }
         match direction {
-            Direction::Inward => size == FRAME,
+            Direction::Inward => size as usize == PAGE_SIZE,
             Direction::Outward => size > 0 && size as usize <= LONGEST,
         }
     }

@@ -1,6 +1,7 @@
-use Rattle.std.proofs.Common.{[], ◌∷◌, ◌++◌, sym, refl, ap, ◌∙◌, arith}
+use Rattle.std.proofs.Common.{◌+◌, [], ◌∷◌, ◌++◌, length, take, sym, refl, ap, ◌∙◌, arith}
 use Rattle.std.proofs.lemmas.Bool.{ne_eqb, cond-false, both_ways}
 use Rattle.std.proofs.lemmas.List.{length-set}
+use Rattle.queue.specs.Line.{turned}
 use Rattle.queue.proofs.Turns.{items_push, take_own}
 use Rattle.queue.proofs.line.Queue.push_from.Goals as goal
 
@@ -16,8 +17,8 @@ returns g c =
     let one_more = items_push h.result n.result p.result q.slots.now x h.ensures.bound (omega arith) p.ensures.is in
     record {
       answer = sym (cond-false _ _ _ room);
-      holds = one_more ∙ ap (λ ys. ys ++ x ∷ []) (sym own) ∙ sym (cond-false _ _ _ room);
-      size = length-set q.slots.now p.result x;
+      holds = ap (λ xs. take (n.result + 1) (turned h.result xs)) c.put.ensures ∙ one_more ∙ ap (λ ys. ys ++ x ∷ []) (sym own) ∙ sym (cond-false _ _ _ room);
+      size = ap length c.put.ensures ∙ length-set q.slots.now p.result x;
       refused = λ e. absurd (both_ways _ room e);
       lent = refl;
     }
