@@ -1,4 +1,5 @@
-// Free-running ring indices: 32 bits that wrap, so that producer and consumer need no agreed start.
+// Free-running ring indices, 32 bits that wrap: a full ring and an empty one differ, and only a slot is taken modulo the
+// number of slots.
 ghost use Rattle.std.specs.Prelude.{◌≡◌, ◌+◌, ◌%◌, ◌^◌};
 ghost use Rattle.abi.specs.Index.{distance, Difference, Advanced};
 
