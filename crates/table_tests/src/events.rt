@@ -12,16 +12,20 @@ fn picks(rt: HostRuntime) -> Result<(), Fail> {
     let five = Port::try_from(5)?;
     assert_eq!(rt; Port::try_from(32), Err(EventFault::BadPort));
     let mut events = Events::new();
-    assert_eq!(rt; events.pick(one), None);
+    let fresh = events.pick(one);
     events.mark(one, two);
     events.mark(one, five);
     events.mark(one, five);
-    assert_eq!(rt; events.pick(zero), None);
+    let elsewhere = events.pick(zero);
     let picked = events.pick(one).ok_or("two ports are pending")?;
     assert!(rt; picked == two || picked == five);
     events.drop_mark(one, two);
-    assert_eq!(rt; events.pick(one), Some(five));
+    let left = events.pick(one);
     events.drop_mark(one, five);
-    assert_eq!(rt; events.pick(one), None);
+    let dropped = events.pick(one);
+    assert_eq!(rt;
+        [fresh, elsewhere, left, dropped],
+        [None, None, Some(five), None]
+    );
     Ok(())
 }

@@ -14,19 +14,25 @@ fn verdicts(rt: HostRuntime) -> Result<(), Fail> {
     let two = Domain::try_from(2)?;
     assert_eq!(rt; Domain::try_from(8), Err(NoDomain));
     let mut frames = Frames::new(2);
-    assert_eq!(rt; number(frames.may_take(2)), -9);
-    assert_eq!(rt; number(frames.may_take(0)), 0);
+    let takes = [frames.may_take(2), frames.may_take(0)];
+    assert_eq!(rt; takes.map(number), [-9, 0]);
     frames.settle(one, 0);
-    assert_eq!(rt; number(frames.may_take(0)), -41);
-    assert_eq!(rt; number(frames.may_give(0, two, 0)), -9);
-    assert_eq!(rt; number(frames.may_give(1, one, 0)), -41);
-    assert_eq!(rt; number(frames.may_give(0, one, 0)), 0);
+    let owned = [
+        frames.may_take(0),
+        frames.may_give(0, two, 0),
+        frames.may_give(1, one, 0),
+        frames.may_give(0, one, 0),
+    ];
+    assert_eq!(rt; owned.map(number), [-41, -9, -41, 0]);
     // 4,096 bytes at 0 lie in the frame, 4,095 at 2 do not; domain 2 reaches it only by a mapping
-    assert_eq!(rt; number(frames.may_access(false, one, 0, 0, 4096)), 0);
-    assert_eq!(rt; number(frames.may_access(false, one, 0, 2, 4095)), -5);
-    assert_eq!(rt; number(frames.may_access(false, two, 0, 0, 1)), -8);
-    assert_eq!(rt; number(frames.may_access(true, two, 0, 0, 1)), 0);
-    assert_eq!(rt; number(frames.may_access(true, two, 2, 0, 1)), -9);
+    let accesses = [
+        frames.may_access(false, one, 0, 0, 4096),
+        frames.may_access(false, one, 0, 2, 4095),
+        frames.may_access(false, two, 0, 0, 1),
+        frames.may_access(true, two, 0, 0, 1),
+        frames.may_access(true, two, 2, 0, 1),
+    ];
+    assert_eq!(rt; accesses.map(number), [0, -5, -8, 0, -9]);
     frames.release(0);
     assert_eq!(rt; number(frames.may_take(0)), 0);
     Ok(())
@@ -37,16 +43,13 @@ fn verdicts(rt: HostRuntime) -> Result<(), Fail> {
 fn bytes(rt: HostRuntime) {
     let mut memory = [7u8; 8192];
     assert_eq!(rt; number(write_part(&mut memory, 1, 3, &[1, 2])), 0);
-    assert_eq!(rt; memory.get(4098).copied(), Some(7));
-    assert_eq!(rt; memory.get(4099).copied(), Some(1));
-    assert_eq!(rt; memory.get(4100).copied(), Some(2));
-    assert_eq!(rt; memory.get(4101).copied(), Some(7));
+    let written = [memory[4098], memory[4099], memory[4100], memory[4101]];
+    assert_eq!(rt; written, [7, 1, 2, 7]);
     let mut part = [0u8; 3];
     assert_eq!(rt; number(read_part(&memory, 1, 2, &mut part)), 0);
     assert_eq!(rt; part, [7, 1, 2]);
     assert_eq!(rt; number(read_part(&memory, 2, 0, &mut part)), -9);
     assert_eq!(rt; number(write_part(&mut memory, 0, 4095, &[1, 2])), -5);
     assert_eq!(rt; number(zero_frame(&mut memory, 0)), 0);
-    assert_eq!(rt; memory.get(4095).copied(), Some(0));
-    assert_eq!(rt; memory.get(4096).copied(), Some(7));
+    assert_eq!(rt; [memory[4095], memory[4096]], [0, 7]);
 }

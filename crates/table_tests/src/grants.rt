@@ -38,9 +38,11 @@ fn map(grants: &mut Grants, frames: &Frames, two: Domain, mode: u32) -> Result<u
 fn numbers(rt: HostRuntime) -> Result<(), Fail> {
     assert_eq!(rt; Reference::try_from(31)?.number, 31);
     assert_eq!(rt; Reference::try_from(32), Err(GrantFault::NoReference));
-    assert_eq!(rt; Mode::try_from(0), Ok(Mode::Read));
-    assert_eq!(rt; Mode::try_from(1), Ok(Mode::Write));
-    assert_eq!(rt; Mode::try_from(2), Err(GrantFault::BadMode));
+    let modes = [Mode::try_from(0), Mode::try_from(1), Mode::try_from(2)];
+    assert_eq!(rt;
+        modes,
+        [Ok(Mode::Read), Ok(Mode::Write), Err(GrantFault::BadMode)]
+    );
     Ok(())
 }
 
@@ -52,18 +54,22 @@ fn refusals(rt: HostRuntime) -> Result<(), Fail> {
     let mut grants = Grants::new();
     let reference = Grants::may_write(5)?;
     assert!(rt; Grants::may_write(32).is_err());
-    // nothing granted; then to another domain; then a frame of somebody else's; then for reading only
-    assert_eq!(rt; verdict(&grants, &frames, two, 5, 0), -1);
+    let nothing = verdict(&grants, &frames, two, 5, 0);
     grants.write_entry(one, reference, entry(1, 3, 3));
-    assert_eq!(rt; verdict(&grants, &frames, two, 5, 0), -1);
+    let to_another = verdict(&grants, &frames, two, 5, 0);
     grants.write_entry(one, reference, entry(1, 2, 4));
-    assert_eq!(rt; verdict(&grants, &frames, two, 5, 0), -9);
+    let of_another = verdict(&grants, &frames, two, 5, 0);
+    assert_eq!(rt; [nothing, to_another, of_another], [-1, -1, -9]);
+    // granted for reading only
     grants.write_entry(one, reference, entry(5, 2, 3));
-    assert_eq!(rt; verdict(&grants, &frames, two, 5, 0), 0);
-    assert_eq!(rt; verdict(&grants, &frames, two, 5, 1), -8);
-    assert_eq!(rt; verdict(&grants, &frames, two, 32, 1), -3);
-    assert_eq!(rt; verdict(&grants, &frames, two, 5, 2), -22);
-    assert_eq!(rt; verdict(&grants, &frames, one, 5, 0), -2);
+    let answers = [
+        verdict(&grants, &frames, two, 5, 0),
+        verdict(&grants, &frames, two, 5, 1),
+        verdict(&grants, &frames, two, 32, 1),
+        verdict(&grants, &frames, two, 5, 2),
+        verdict(&grants, &frames, one, 5, 0),
+    ];
+    assert_eq!(rt; answers, [0, -8, -3, -22, -2]);
     Ok(())
 }
 
@@ -78,23 +84,26 @@ fn pins_outlive_the_entry(rt: HostRuntime) -> Result<(), Fail> {
     let reference = Grants::may_write(0)?;
     grants.write_entry(one, reference, entry(1, 2, 3));
     let read = map(&mut grants, &frames, two, 0)?;
-    assert_eq!(rt; read, 0);
-    assert_eq!(rt; grants.entry(one, reference).flags, 9);
+    let reading = grants.entry(one, reference).flags;
     let write = map(&mut grants, &frames, two, 1)?;
-    assert_eq!(rt; write, 1);
-    assert_eq!(rt; grants.entry(one, reference).flags, 25);
-    assert_eq!(rt; grants.pins(3), 2);
-    assert!(rt; grants.writes_frame(two, 3));
-    assert!(rt; grants.may_end(one, 0).is_err());
+    let writing = grants.entry(one, reference).flags;
+    assert_eq!(rt; [read, write], [0, 1]);
+    assert_eq!(rt; [reading, writing], [9, 25]);
+    let ends = grants.may_end(one, 0).is_ok();
+    let both = (grants.pins(3), grants.writes_frame(two, 3));
     grants.write_entry(one, reference, entry(0, 0, 0));
-    assert_eq!(rt; grants.pins(3), 2);
+    let withdrawn = (grants.pins(3), grants.writes_frame(two, 3));
     grants.unpin(two, 1);
-    assert_eq!(rt; grants.pins(3), 1);
-    assert!(rt; grants.maps_frame(two, 3));
-    assert!(rt; !grants.writes_frame(two, 3));
+    let read_only = (grants.pins(3), grants.writes_frame(two, 3));
+    assert_eq!(rt;
+        [both, withdrawn, read_only],
+        [(2, true), (2, true), (1, false)]
+    );
+    let maps = grants.maps_frame(two, 3);
     grants.unpin(two, 0);
     assert_eq!(rt; grants.pins(3), 0);
-    assert!(rt; grants.may_unmap(two, 0).is_err());
+    let unmaps = grants.may_unmap(two, 0).is_ok();
+    assert_eq!(rt; [ends, maps, unmaps], [false, true, false]);
     Ok(())
 }
 
@@ -109,13 +118,11 @@ fn two_readers(rt: HostRuntime) -> Result<(), Fail> {
     grants.write_entry(one, reference, entry(1, 2, 3));
     let first = map(&mut grants, &frames, two, 0)?;
     let second = map(&mut grants, &frames, two, 0)?;
-    assert_eq!(rt; grants.entry(one, reference).flags, 9);
-    assert_eq!(rt; grants.pins(3), 2);
+    let both = (grants.entry(one, reference).flags, grants.pins(3));
     grants.unpin(two, u32::from(first));
-    assert_eq!(rt; grants.entry(one, reference).flags, 9);
-    assert_eq!(rt; grants.pins(3), 1);
+    let one_left = (grants.entry(one, reference).flags, grants.pins(3));
     grants.unpin(two, u32::from(second));
-    assert_eq!(rt; grants.entry(one, reference).flags, 1);
-    assert_eq!(rt; grants.pins(3), 0);
+    let none = (grants.entry(one, reference).flags, grants.pins(3));
+    assert_eq!(rt; [both, one_left, none], [(9, 2), (9, 1), (1, 0)]);
     Ok(())
 }

@@ -34,15 +34,21 @@ fn refusal(request: &Request) -> (i16, u8) {
 
 #[test]
 fn block_checks(rt: HostRuntime) {
-    assert_eq!(rt; refusal(&block(0, 2, 2, 3)), (0, 0));
-    assert_eq!(rt; refusal(&block(1, 11, 7, 7)), (0, 0));
-    assert_eq!(rt; refusal(&block(2, 2, 2, 3)), (-2, 0));
-    assert_eq!(rt; refusal(&block(0, 0, 2, 3)), (-1, 0));
-    assert_eq!(rt; refusal(&block(0, 12, 2, 3)), (-1, 0));
-    assert_eq!(rt; refusal(&block(0, 2, 3, 2)), (-1, 1));
-    assert_eq!(rt; refusal(&block(0, 2, 2, 8)), (-1, 1));
-    // a bad segment that is not counted does not count
-    assert_eq!(rt; refusal(&block(0, 1, 3, 2)), (0, 0));
+    let passing = [
+        refusal(&block(0, 2, 2, 3)),
+        refusal(&block(1, 11, 7, 7)),
+        // a bad segment that is not counted does not count
+        refusal(&block(0, 1, 3, 2)),
+    ];
+    assert_eq!(rt; passing, [(0, 0); 3]);
+    let refused = [
+        refusal(&block(2, 2, 2, 3)),
+        refusal(&block(0, 0, 2, 3)),
+        refusal(&block(0, 12, 2, 3)),
+        refusal(&block(0, 2, 3, 2)),
+        refusal(&block(0, 2, 2, 8)),
+    ];
+    assert_eq!(rt; refused, [(-2, 0), (-1, 0), (-1, 0), (-1, 1), (-1, 1)]);
 }
 
 // 8 sectors from byte 0 on, and 2 from byte 2 * 512 = 1024 on: 4,096 + 1,024 = 5,120 bytes together.
@@ -51,11 +57,12 @@ fn block_spans(rt: HostRuntime) {
     let spans = spans_of(&block(0, 2, 2, 3));
     assert_eq!(rt; spans.count, 2);
     assert_eq!(rt; spans.length, 5120);
-    assert_eq!(rt; spans.table[0].start, 0);
-    assert_eq!(rt; spans.table[0].length, 4096);
-    assert_eq!(rt; spans.table[1].reference, 6);
-    assert_eq!(rt; spans.table[1].start, 1024);
-    assert_eq!(rt; spans.table[1].length, 1024);
+    let [first, second, ..] = spans.table;
+    assert_eq!(rt; [first.start, first.length], [0, 4096]);
+    assert_eq!(rt;
+        [second.reference, second.start, second.length],
+        [6, 1024, 1024]
+    );
 }
 
 #[test]
@@ -81,7 +88,6 @@ fn send_checks(rt: HostRuntime) {
         id: 2,
         size: 60,
     });
-    assert_eq!(rt; refusal(&fits), (0, 0));
-    assert_eq!(rt; refusal(&past), (-1, 0));
-    assert_eq!(rt; refusal(&flagged), (-1, 0));
+    let answers = [refusal(&fits), refusal(&past), refusal(&flagged)];
+    assert_eq!(rt; answers, [(0, 0), (-1, 0), (-1, 0)]);
 }

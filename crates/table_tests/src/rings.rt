@@ -11,21 +11,12 @@ use std::test::Fail;
 fn header(rt: HostRuntime) {
     let mut memory = [7u8; 8192];
     assert!(rt; write_fresh_header(&mut memory, 1).is_ok());
-    let places: [(usize, u8); 7] = [
-        (4095, 7),
-        (4096, 0),
-        (4100, 1),
-        (4104, 0),
-        (4108, 1),
-        (4159, 0),
-        (4160, 7),
-    ];
-    for (place, byte) in places {
-        assert_eq!(rt; memory.get(place).copied(), Some(byte), "{}", place);
-    }
+    let around = [memory[4095], memory[4096], memory[4159], memory[4160]];
+    assert_eq!(rt; around, [7, 0, 0, 7]);
+    let words = [memory[4096], memory[4100], memory[4104], memory[4108]];
+    assert_eq!(rt; words, [0, 1, 0, 1]);
     assert!(rt; set_word(&mut memory, 1, Word::RspProd, 0x0102_0304).is_ok());
-    assert_eq!(rt; memory.get(4104).copied(), Some(4));
-    assert_eq!(rt; memory.get(4107).copied(), Some(1));
+    assert_eq!(rt; [memory[4104], memory[4107]], [4, 1]);
     assert_eq!(rt;
         read_word(&memory, 1, Word::RspProd).ok(),
         Some(0x0102_0304)
@@ -60,10 +51,13 @@ fn request_and_response(rt: HostRuntime) -> Result<(), Fail> {
 // Of 32 slots 3 hold unanswered requests, so at most 29 may be ahead.
 #[test]
 fn producer(rt: HostRuntime) {
-    assert!(rt; ahead(Kind::Block, 3, 0, 32).is_ok());
-    assert!(rt; ahead(Kind::Block, 3, 0, 33).is_err());
-    assert!(rt; ahead(Kind::Block, 1, 4_294_967_294, 30).is_ok());
-    assert!(rt; ahead(Kind::Block, 1, 4_294_967_294, 31).is_err());
+    let passes = [
+        ahead(Kind::Block, 3, 0, 32).is_ok(),
+        ahead(Kind::Block, 3, 0, 33).is_ok(),
+        ahead(Kind::Block, 1, 4_294_967_294, 30).is_ok(),
+        ahead(Kind::Block, 1, 4_294_967_294, 31).is_ok(),
+    ];
+    assert_eq!(rt; passes, [true, false, true, false]);
 }
 
 // Nothing was consumed: as many requests as slots are ahead, and one more is refused with -42.
