@@ -18,7 +18,7 @@ use Rattle.law.specs.Call.{Call, Next, Connect, domain, Reply}
 use Rattle.law.specs.Step.{Ends, step, told, by_verdict}
 use Rattle.law.specs.Account.{Account, ConnectionNote, accepted, noted}
 use Rattle.law.specs.Keeps.{Keeps, Owns, Maps, Writes, InSlot, nth, responses}
-use Rattle.law.proofs.Inv.{Inv}
+use Rattle.law.proofs.Inv.{Standing, Inv}
 use Rattle.law.proofs.Books.{granted, pins-mappings, pins-counted}
 use Rattle.law.proofs.Requested.{answers_one, answers-once}
 
@@ -43,8 +43,9 @@ module _ {M N : Type 0} (R : Rules M) (S : Rules N) (pick : ℕ → ℕ) where
   abbrev pub after : Account → World M N → Call → Reply → Account
   after a w c r = noted R S a c r w.memory w.bay0 w.bay1
 
-  pub record Good (a b : Account) (w : World M N) (c : Call) (e : Ends M N) : Type 0 where
-    pub inv : Inv R S b e.world
+  -- what the step does, where I holds after it
+  pub record GoodWith (I : Type 0) (a b : Account) (w : World M N) (c : Call) (e : Ends M N) : Type 0 where
+    pub inv : I
     pub count : e.world.host.frames.count ≡ w.host.frames.count
     pub owner : (f : ℕ) → 0 < pins w.host.grants.records f → at b.owners f ≡ at a.owners f
     pub alters : (f : ℕ) → f < w.host.frames.count → (Owns b (domain c) f → ⊥) → (Writes a (domain c) f → ⊥)
@@ -58,6 +59,16 @@ module _ {M N : Type 0} (R : Rules M) (S : Rules N) (pick : ℕ → ℕ) where
         → (g : ℕ) → bit (word e.world.host.events g) (n + 1) ≡ 0
     pub refused : (f : HostFault) → e.answer.result ≡ Err f → e.world ≡ w
 
+  -- a step that leaves memory of the host's size, and one that leaves any
+  abbrev pub Good : Account → Account → World M N → Call → Ends M N → Type 0
+  Good a b w c e = GoodWith (Inv R S b e.world) a b w c e
+
+  abbrev pub StandsGood : Account → Account → World M N → Call → Ends M N → Type 0
+  StandsGood a b w c e = GoodWith (Standing R S b e.world) a b w c e
+
+  pub stands_good : {I : Type 0} (a b : Account) (w : World M N) (c : Call) (e : Ends M N) → (I → Standing R S b e.world) → GoodWith I a b w c e → StandsGood a b w c e
+  stands_good a b w c e f g = record { inv = f g.inv; count = g.count; owner = g.owner; alters = g.alters; response = g.response; unbroken = g.unbroken; pending = g.pending; unmarked = g.unmarked; refused = g.refused }
+
   -- other bytes where the call's domain may not look would have changed nothing
   abbrev pub Learns : Account → World M N → Call → Type 0
   Learns a w c = (m : List ℕ) → length m ≡ length w.memory
@@ -67,7 +78,7 @@ module _ {M N : Type 0} (R : Rules M) (S : Rules N) (pick : ℕ → ℕ) where
       × ((step R S pick (with_memory m w) c).world.bay1 ≡ (step R S pick w c).world.bay1)
 
   -- the law of one step
-  pub law_of-step : (a b : Account) (w : World M N) (c : Call) → Good a b w c (step R S pick w c) → Learns a w c
+  pub law_of-step : (a b : Account) (w : World M N) (c : Call) → StandsGood a b w c (step R S pick w c) → Learns a w c
       → Keeps R S pick a b (record { found = w; call = c; answered = (step R S pick w c).answer; left = (step R S pick w c).world })
   law_of-step a b w c g learns =
       let H = (step R S pick w c).world.host in
@@ -101,11 +112,11 @@ module _ {M N : Type 0} (R : Rules M) (S : Rules N) (pick : ℕ → ℕ) where
       }
 
   -- a call that changes nothing, and the account neither
-  pub good_same : (a : Account) (w : World M N) (c : Call) (r : Reply) → Inv R S a w
+  pub good_same : {I : Type 0} (a : Account) (w : World M N) (c : Call) (r : Reply) → I
       → ((x : DeviceFault) → r.result ≡ Err (OfRing (OfDevice x)) → ⊥)
       → ((d p : ℕ) → c ≡ Next d → r.result ≡ Ok (Port p) → ((word w.host.events d ≡ 0) × (p ≡ 0)) ⊎ (bit (word w.host.events d) p ≡ 1))
       → ((n : ℕ) → r.result ≡ Ok (Connected n) → ⊥)
-      → Good a a w c (record { answer = r; world = w })
+      → GoodWith I a a w c (record { answer = r; world = w })
   good_same a w c r i u p o = record {
     inv = i;
     count = refl;
@@ -122,6 +133,12 @@ module _ {M N : Type 0} (R : Rules M) (S : Rules N) (pick : ℕ → ℕ) where
   pub good_refused : (a : Account) (w : World M N) (c : Call) (f : HostFault) → Inv R S a w → Unbroken f → Good a (after a w c (told (Err f))) w c (record { answer = told (Err f); world = w })
   unfolding noted
   good_refused a w c f i u =
+      good_same a w c (told (Err f)) i (λ x e. u x (let z : f ≡ OfRing (OfDevice x) = cc in z)) (λ d p q e. absurd (let z : ◌≡◌ {A = ℕ} 0 1 = cc in omega arith)) (λ n e. let z : ◌≡◌ {A = ℕ} 0 1 = cc in omega arith)
+
+  -- and so whatever memory the call was given
+  pub stands_refused : (a : Account) (w : World M N) (c : Call) (f : HostFault) → Standing R S a w → Unbroken f → StandsGood a (after a w c (told (Err f))) w c (record { answer = told (Err f); world = w })
+  unfolding noted
+  stands_refused a w c f i u =
       good_same a w c (told (Err f)) i (λ x e. u x (let z : f ≡ OfRing (OfDevice x) = cc in z)) (λ d p q e. absurd (let z : ◌≡◌ {A = ℕ} 0 1 = cc in omega arith)) (λ n e. let z : ◌≡◌ {A = ℕ} 0 1 = cc in omega arith)
 
   -- a call by a verdict: refused, or good where it is granted

@@ -146,6 +146,17 @@ pub record Words (E : Events) (conns : List (Option ConnectionNote)) : Type 0 wh
   pub small : (d : ℕ) → word E d < 2 ^ 32
   pub live : (d p : ℕ) → bit (word E d) p ≡ 1 → LiveEnd conns d p
 
+-- what holds whatever memory the next call is given
+pub record Standing {M N : Type 0} (R : Rules M) (S : Rules N) (a : Account) (w : World M N) : Type 0 where
+  pub few : w.host.frames.count ≤ 256
+  pub books : BooksOf w.host.frames w.host.grants a
+  pub links : Links w.host.grants.handles w.host.rings a.connections a.jobs
+  pub requests : Requests w.host.rings.jobs a.connections a.jobs
+  pub bay0 : BayHeld R w.bay0 BlockBay a.jobs
+  pub bay1 : BayHeld S w.bay1 NetBay a.jobs
+  pub words : Words w.host.events a.connections
+
+-- and with memory of the size that the host's frames have
 pub record Inv {M N : Type 0} (R : Rules M) (S : Rules N) (a : Account) (w : World M N) : Type 0 where
   pub few : w.host.frames.count ≤ 256
   pub memory : length w.memory ≡ 4096 * w.host.frames.count
@@ -155,3 +166,10 @@ pub record Inv {M N : Type 0} (R : Rules M) (S : Rules N) (a : Account) (w : Wor
   pub bay0 : BayHeld R w.bay0 BlockBay a.jobs
   pub bay1 : BayHeld S w.bay1 NetBay a.jobs
   pub words : Words w.host.events a.connections
+
+module _ {M N : Type 0} (R : Rules M) (S : Rules N) (a : Account) (w : World M N) where
+  pub standing : Inv R S a w → Standing R S a w
+  standing i = record { few = i.few; books = i.books; links = i.links; requests = i.requests; bay0 = i.bay0; bay1 = i.bay1; words = i.words }
+
+  pub with_size : Standing R S a w → length w.memory ≡ 4096 * w.host.frames.count → Inv R S a w
+  with_size s size = record { few = s.few; memory = size; books = s.books; links = s.links; requests = s.requests; bay0 = s.bay0; bay1 = s.bay1; words = s.words }

@@ -1,7 +1,7 @@
 -- Isolation over any run: each call, accepted or refused, keeps the invariant and the law.
-use Rattle.std.proofs.Common.{◌≡◌, ℕ, ◌*◌, ◌<◌, ◌≤◌, Bool, true, false, ◌||◌, eqb, ltb, [], ◌∷◌, length, Some, None, Ok, Err, Result, sym, refl, ap, ◌∙◌, subst, arith}
+use Rattle.std.proofs.Common.{◌≡◌, ℕ, ◌*◌, ◌<◌, ◌≤◌, Bool, true, false, ◌||◌, eqb, ltb, List, [], ◌∷◌, length, Some, None, Ok, Err, Result, sym, refl, ap, ◌∙◌, subst, arith}
 use Rattle.std.proofs.lemmas.Bool.{or_parts, ltb-false, eqb-false, eqb-true, not-false}
-use Rattle.rules.specs.Refusal.{refuse_first, either_of}
+use Rattle.rules.specs.Refusal.{Rule, refuse_first, either_of}
 use Rattle.rules.specs.Tables.{at}
 use Rattle.rules.proofs.Refusals.{none-held}
 use Rattle.device.specs.Meaning.{Rules, ready_ticket}
@@ -23,20 +23,20 @@ use Rattle.law.specs.Account.{Account, nothing_yet, noted, accepted, serve_noted
 use Rattle.law.specs.Keeps.{Step, Keeps, under_ticket, handed}
 use Rattle.law.specs.Run.{Starts, Does}
 use Rattle.law.specs.Law.{Picks, Isolation}
-use Rattle.law.proofs.Inv.{Inv, BooksOf, Links, Requests, Words}
+use Rattle.law.proofs.Inv.{Standing, Inv, BooksOf, Links, Requests, Words, standing, with_size}
 use Rattle.law.proofs.Books.{books_start}
 use Rattle.law.proofs.Links.{links_start}
 use Rattle.law.proofs.Requested.{requests-start}
 use Rattle.law.proofs.Marks.{words_start}
 use Rattle.grant_law.proofs.Places.{at-replicate}
 use Rattle.law.proofs.Cases.{ok_same}
-use Rattle.law.proofs.Good.{Good, Unbroken, after, good_refused, law_of-step}
+use Rattle.law.proofs.Good.{Good, StandsGood, Learns, Unbroken, after, good_refused, stands_good, stands_refused, law_of-step}
 use Rattle.law.proofs.Simple.{good_take, good_give, good_load, good_store, good_entry, good_end, good_map, good_unmap, good_send, good_next}
 use Rattle.law.proofs.Connecting.{good_connect, good_disconnect}
 use Rattle.law.proofs.Outcomes.{host_inv, good_bay0, good_bay1, ring_noted}
 use Rattle.law.proofs.Serving.{served_good}
 use Rattle.law.proofs.Completing.{completed_good}
-use Rattle.law.proofs.Learns.{learns}
+use Rattle.law.proofs.Learns.{learns, learns_refused}
 use Rattle.law.proofs.Reduction.{then, StepsKeep, isolation_from}
 
 -- what the host itself refuses is no device's fault
@@ -128,15 +128,43 @@ module _ {M N : Type 0} (R : Rules M) (S : Rules N) (pick : ℕ → ℕ) where
     good-call (Complete b) q = good-complete b
     good-call (Disconnect c) q = good_disconnect R S pick a w i c
 
+  -- a call that the host does not refuse was given memory of its size
+  sized-by : (w : World M N) (rest : List (Rule HostFault)) → refuse_first {T = Unit} ((wrong_memory w.host w.memory, BadMemory) ∷ rest) (Ok tt) ≡ Ok tt → length w.memory ≡ 4096 * w.host.frames.count
+  sized-by w rest q = eqb-true (length w.memory) (4096 * w.host.frames.count) (not-false _ (none-held ((wrong_memory w.host w.memory, BadMemory) ∷ rest) (Ok tt) tt q).0.0)
+
+  sized : (w : World M N) (c : Call) → refuse_first {T = Unit} (host_rules R S pick w c) (Ok tt) ≡ Ok tt → length w.memory ≡ 4096 * w.host.frames.count
+  sized w (Take d f) q = sized-by w ((eqb d 0 || ltb 7 d, BadCaller) ∷ []) q
+  sized w (Give d f) q = sized-by w ((eqb d 0 || ltb 7 d, BadCaller) ∷ []) q
+  sized w (Load d f o n) q = sized-by w ((eqb d 0 || ltb 7 d, BadCaller) ∷ []) q
+  sized w (Store d f o bs) q = sized-by w ((eqb d 0 || ltb 7 d, BadCaller) ∷ []) q
+  sized w (Entry d n fl to f) q = sized-by w ((eqb d 0 || ltb 7 d, BadCaller) ∷ []) q
+  sized w (End d n) q = sized-by w ((eqb d 0 || ltb 7 d, BadCaller) ∷ []) q
+  sized w (Map d o n md) q = sized-by w ((eqb d 0 || ltb 7 d, BadCaller) ∷ []) q
+  sized w (Unmap d h) q = sized-by w ((eqb d 0 || ltb 7 d, BadCaller) ∷ []) q
+  sized w (Send d p) q = sized-by w ((eqb d 0 || ltb 7 d, BadCaller) ∷ []) q
+  sized w (Next d) q = sized-by w ((ltb 7 d, BadCaller) ∷ []) q
+  sized w (Connect d k n) q = sized-by w ((eqb d 0 || ltb 7 d, BadCaller) ∷ []) q
+  sized w (Serve c) q = sized-by w [] q
+  sized w (Complete b) q = sized-by w [] q
+  sized w (Disconnect c) q = sized-by w [] q
+
+  module _ (lr : Laws R) (ls : Laws S) (pk : Picks pick) (a : Account) (w : World M N) (s : Standing R S a w) where
     -- every call
-    good-step : (c : Call) → Good R S pick a (after R S pick a w c (step R S pick w c).answer) w c (step R S pick w c)
+    good-step : (c : Call) → StandsGood R S pick a (after R S pick a w c (step R S pick w c).answer) w c (step R S pick w c)
     unfolding step
     good-step c = by (refuse_first (host_rules R S pick w c) (Ok tt)) refl
       where
         by : (r : Result Unit HostFault) → refuse_first (host_rules R S pick w c) (Ok tt) ≡ r
-            → Good R S pick a (after R S pick a w c (either_of r (λ _. proceeds R S pick w c) (λ f. record { answer = told (Err f); world = w })).answer) w c (either_of r (λ _. proceeds R S pick w c) (λ f. record { answer = told (Err f); world = w }))
-        by (Ok t) e = good-call c e
-        by (Err f) e = good_refused R S pick a w c f i (host-unbroken w c f e)
+            → StandsGood R S pick a (after R S pick a w c (either_of r (λ _. proceeds R S pick w c) (λ f. record { answer = told (Err f); world = w })).answer) w c (either_of r (λ _. proceeds R S pick w c) (λ f. record { answer = told (Err f); world = w }))
+        by (Ok t) e = stands_good R S pick a _ w c (proceeds R S pick w c) (standing R S _ _) (good-call lr ls pk a w (with_size R S a w s (sized w c e)) c e)
+        by (Err f) e = stands_refused R S pick a w c f s (host-unbroken w c f e)
+
+    learns-step : (c : Call) → Learns R S pick a w c
+    learns-step c = by (refuse_first (host_rules R S pick w c) (Ok tt)) refl
+      where
+        by : (r : Result Unit HostFault) → refuse_first (host_rules R S pick w c) (Ok tt) ≡ r → Learns R S pick a w c
+        by (Ok t) e = learns R S pick a w (with_size R S a w s (sized w c e)) c
+        by (Err f) e = learns_refused R S pick a w c f e
 
   -- a new host over idle devices
   start-inv : (w : World M N) → Starts R S w → Inv R S nothing_yet w
@@ -161,19 +189,19 @@ module _ {M N : Type 0} (R : Rules M) (S : Rules N) (pick : ℕ → ℕ) where
   -- each step keeps the invariant, and the law
   steps-keep : Laws R → Laws S → Picks pick → StepsKeep R S pick
   steps-keep lr ls pk = record {
-    at-start = start-inv;
+    at-start = λ w s. standing R S nothing_yet w (start-inv w s);
     stays = λ a s d i.
-        subst (λ v. Inv R S (then R S pick a s) v) (sym d.leaves)
-        (subst (λ r. Inv R S (noted R S a s.call r s.found.memory s.found.bay0 s.found.bay1) (step R S pick s.found s.call).world) (sym d.answers)
+        subst (λ v. Standing R S (then R S pick a s) v) (sym d.leaves)
+        (subst (λ r. Standing R S (noted R S a s.call r s.found.memory s.found.bay0 s.found.bay1) (step R S pick s.found s.call).world) (sym d.answers)
         (good-step lr ls pk a s.found i s.call).inv);
     keeps = λ a s d i. kept_step lr ls pk a s d i;
   }
     where
-      kept_step : Laws R → Laws S → Picks pick → (a : Account) (s : Step M N) → Does R S pick s.found s.call s.answered s.left → Inv R S a s.found → Keeps R S pick a (then R S pick a s) s
+      kept_step : Laws R → Laws S → Picks pick → (a : Account) (s : Step M N) → Does R S pick s.found s.call s.answered s.left → Standing R S a s.found → Keeps R S pick a (then R S pick a s) s
       kept_step lr ls pk a s d i =
           subst (λ v. Keeps R S pick a (then R S pick a s) (record { found = s.found; call = s.call; answered = s.answered; left = v })) (sym d.leaves)
           (subst (λ r. Keeps R S pick a (noted R S a s.call r s.found.memory s.found.bay0 s.found.bay1) (record { found = s.found; call = s.call; answered = r; left = (step R S pick s.found s.call).world })) (sym d.answers)
-          (law_of-step R S pick a _ s.found s.call (good-step lr ls pk a s.found i s.call) (learns R S pick a s.found i s.call)))
+          (law_of-step R S pick a _ s.found s.call (good-step lr ls pk a s.found i s.call) (learns-step lr ls pk a s.found i s.call)))
 
 pub isolation : {M N : Type 0} (R : Rules M) (S : Rules N) → Isolation R S
 isolation R S = isolation_from R S (λ lr ls pick pk. steps-keep R S pick lr ls pk)

@@ -11,7 +11,7 @@ use Rattle.law.proofs.Isolated.{isolation}
 module _ {M N : Type 0} (R : Rules M) (S : Rules N) where
   -- nothing happened
   pub at_once : (w : World M N) → Meanwhile R S w w
-  at_once w = record { host = refl; size = refl; orders0 = refl; orders1 = refl }
+  at_once w = record { host = refl; orders0 = refl; orders1 = refl }
 
   pub kept : Laws R → Laws S → (pick : ℕ → ℕ) → Picks pick → (w : World M N) (c : Call) (r : Reply) (v : World M N) → Does R S pick w c r v → Kept R S pick w c r v
   unfolding Reaches

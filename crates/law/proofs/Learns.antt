@@ -1,5 +1,5 @@
 -- Other bytes where a call's domain may not look would have changed neither its answer nor a device.
-use Rattle.std.proofs.Common.{◌≡◌, ℕ, ◌+◌, ◌*◌, ◌<◌, ◌≤◌, Bool, true, false, cond, not, ◌||◌, eqb, ltb, ◌⊎◌, List, [], ◌∷◌, length, get_or, Some, None, Ok, Err, Result, sym, refl, ap, ◌∙◌, subst, inl, inr}
+use Rattle.std.proofs.Common.{◌≡◌, ℕ, ◌+◌, ◌*◌, ◌<◌, ◌≤◌, Bool, true, false, cond, not, ◌||◌, eqb, ltb, ◌⊎◌, List, [], ◌∷◌, length, get_or, Some, None, Ok, Err, Result, sym, refl, ap, ◌∙◌, subst, inl, inr, arith}
 use Rattle.std.proofs.lemmas.Bool.{not-false, ltb-true, ltb-false, or_cases}
 use Rattle.rules.specs.Tables.{at}
 use Rattle.rules.specs.Refusal.{Rule, refuse_first, passed, granting, after_ok, either_of}
@@ -70,6 +70,18 @@ module _ {M N : Type 0} where
       → Alike (record { answer = y; world = cond b w' v' }) (record { answer = y; world = cond b w v })
   alike-cond true y w w' v v' p q s u = (refl, p, q)
   alike-cond false y w w' v v' p q s u = (refl, s, u)
+
+module _ {M N : Type 0} (R : Rules M) (S : Rules N) (pick : ℕ → ℕ) (a : Account) (w : World M N) where
+  -- what the host itself refuses it refuses with any bytes
+  pub learns_refused : (c : Call) (f : HostFault) → refuse_first {T = Unit} (host_rules R S pick w c) (Ok tt) ≡ Err f → Learns R S pick a w c
+  unfolding step
+  learns_refused c f q m size same =
+      subst (λ (rs : List (Rule HostFault)). Alike (either_of (refuse_first {T = Unit} rs (Ok tt)) (λ _. proceeds R S pick (with_memory m w) c) (λ e. record { answer = told (Err e); world = with_memory m w })) (either_of (refuse_first {T = Unit} (host_rules R S pick w c) (Ok tt)) (λ _. proceeds R S pick w c) (λ e. record { answer = told (Err e); world = w })))
+      (sym (rules_same R S pick w m size c)) (by (refuse_first (host_rules R S pick w c) (Ok tt)) q)
+    where
+      by : (r : Result Unit HostFault) → r ≡ Err f → Alike (either_of r (λ _. proceeds R S pick (with_memory m w) c) (λ e. record { answer = told (Err e); world = with_memory m w })) (either_of r (λ _. proceeds R S pick w c) (λ e. record { answer = told (Err e); world = w }))
+      by (Ok t) e = absurd (let y : ◌≡◌ {A = ℕ} 0 1 = cc in omega arith)
+      by (Err e) q' = (refl, refl, refl)
 
 module _ {M N : Type 0} (R : Rules M) (S : Rules N) (pick : ℕ → ℕ) (a : Account) (w : World M N) (i : Inv R S a w) where
   -- a step is alike where what it proceeds to is

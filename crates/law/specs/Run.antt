@@ -1,5 +1,5 @@
 -- Whole runs, and the law over them.
-use Rattle.std.specs.Prelude.{◌≡◌, ℕ, List, [], ◌∷◌, ◌++◌, length, Ok}
+use Rattle.std.specs.Prelude.{◌≡◌, ℕ, List, [], ◌∷◌, ◌++◌, Ok}
 use Rattle.device.specs.Meaning.{Rules}
 use Rattle.answer.specs.Parts.{answer_parts}
 use Rattle.law.specs.World.{World}
@@ -20,11 +20,10 @@ module _ {M N : Type 0} (R : Rules M) (S : Rules N) where
     pub idle0 : R.orders w.bay0 ≡ []
     pub idle1 : S.orders w.bay1 ≡ []
 
-  -- what may happen from u to w between two calls: guests write their frames, and devices go on with the orders that
-  -- they have in hand
+  -- what may happen from u to w between two calls: guests write their frames, the next call is given memory of another
+  -- length, which is refused, and devices go on with the orders that they have in hand
   pub record Meanwhile (u w : World M N) : Type 0 where
     pub host : w.host ≡ u.host
-    pub size : length w.memory ≡ length u.memory
     pub orders0 : R.orders w.bay0 ≡ R.orders u.bay0
     pub orders1 : S.orders w.bay1 ≡ S.orders u.bay1
 
