@@ -97,7 +97,7 @@ pub fn unpin_segments(grants: &mut Grants, job: &Job)
     }
 }
 
-/// Maps the parts of the guest's frames that a request names, as the segments of its job. Where one is refused, those
+/// Maps the spans of the guest's frames that a request names, as the segments of its job. Where one is refused, those
 /// before it are unmapped again.
 pub fn pin_segments(
     frames: &Frames,

@@ -42,6 +42,6 @@ with_answered None k = k
 with_answered (Some x) k = suc k
 
 module _ {T R E : Type 0} (remaining : R → Option (List ℕ)) (reads : List ℕ → Result (Option T) E → Type 0) where
-  -- some lines are passed and one is answered, and just these are counted
+  -- some lines are passed, and one is answered unless none is left; just these are counted
   abbrev pub ReadsOn : Script T R → Option (Result T E) → Script T R → Type 0
   ReadsOn s r t = (k : ℕ) × (t.came ≡ counted (with_answered r k) s.came) × AnswersNext reads k (known_bytes remaining s) r (known_bytes remaining t)

@@ -16,7 +16,7 @@ pub(crate) enum Failure {
     Unread(#[from] Unread),
     #[error(transparent)]
     Arguments(#[from] Arguments),
-    // Arguments that cannot be had, or an answer that cannot be written: no line is to blame.
+    // Arguments or a buffer that cannot be had, or output that cannot be written: no line is to blame.
     #[error(transparent)]
     System(#[from] io::Error),
     #[error("out of memory")]

@@ -38,8 +38,8 @@ pub record Only (p b old new : ℕ) : Type 0 where
   pub here : bit new p ≡ b
   pub others : (q : ℕ) → q < 32 → (q ≢ p) → bit new q ≡ bit old q
 
--- The port that is picked of a word: the lowest. The law relies on `Picked` alone; another choice changes this, its
--- lemmas and what unfolds it.
+-- The port that is picked of a word: the lowest. The law asks only that it was pending (`Picks`); another choice changes
+-- this, its lemmas and what unfolds it.
 unfoldable pub pick : ℕ → ℕ
 pick w = count_trailing_zeros 32 w
 

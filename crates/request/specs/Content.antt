@@ -12,7 +12,7 @@ use Rattle.request.specs.declared.table.Spans.{Spans}
 abbrev pub segment_span : Segment → Span
 segment_span s = record { reference = s.reference; start = 512 * s.first; length = 512 * (s.last + 1 - s.first) }
 
--- the parts of frames in their order: those that a block request counts, or the one of a network request
+-- the spans in their order: those that a block request counts, or the one of a network request
 abbrev pub spans_of : Request → List Span
 spans_of (OfBlock q) = map segment_span (take q.count q.segments)
 spans_of (OfSend q) = record { reference = q.reference; start = q.offset; length = q.size } ∷ []
@@ -30,7 +30,7 @@ place_of (OfBlock q) = q.sector
 place_of (OfSend q) = 0
 place_of (OfReceive q) = 0
 
--- the bytes of all parts together
+-- the bytes of all spans together
 abbrev pub length_of : Request → ℕ
 length_of q = sum_by (λ s. s.length) (spans_of q)
 
