@@ -129,17 +129,19 @@ module _ {M N : Type 0} (R : Rules M) (S : Rules N) (pick : ℕ → ℕ) where
     refused = λ f e. refl;
   }
 
-  -- a refusal
+  -- a refusal, which the account does not note
+  refused-same : {I : Type 0} (a : Account) (w : World M N) (c : Call) (f : HostFault) → I → Unbroken f → GoodWith I a a w c (record { answer = told (Err f); world = w })
+  refused-same a w c f i u =
+      good_same a w c (told (Err f)) i (λ x e. u x (let z : f ≡ OfRing (OfDevice x) = cc in z)) (λ d p q e. absurd (let z : ◌≡◌ {A = ℕ} 0 1 = cc in omega arith)) (λ n e. let z : ◌≡◌ {A = ℕ} 0 1 = cc in omega arith)
+
   pub good_refused : (a : Account) (w : World M N) (c : Call) (f : HostFault) → Inv R S a w → Unbroken f → Good a (after a w c (told (Err f))) w c (record { answer = told (Err f); world = w })
   unfolding noted
-  good_refused a w c f i u =
-      good_same a w c (told (Err f)) i (λ x e. u x (let z : f ≡ OfRing (OfDevice x) = cc in z)) (λ d p q e. absurd (let z : ◌≡◌ {A = ℕ} 0 1 = cc in omega arith)) (λ n e. let z : ◌≡◌ {A = ℕ} 0 1 = cc in omega arith)
+  good_refused a w c f i u = refused-same a w c f i u
 
   -- and so whatever memory the call was given
   pub stands_refused : (a : Account) (w : World M N) (c : Call) (f : HostFault) → Standing R S a w → Unbroken f → StandsGood a (after a w c (told (Err f))) w c (record { answer = told (Err f); world = w })
   unfolding noted
-  stands_refused a w c f i u =
-      good_same a w c (told (Err f)) i (λ x e. u x (let z : f ≡ OfRing (OfDevice x) = cc in z)) (λ d p q e. absurd (let z : ◌≡◌ {A = ℕ} 0 1 = cc in omega arith)) (λ n e. let z : ◌≡◌ {A = ℕ} 0 1 = cc in omega arith)
+  stands_refused a w c f i u = refused-same a w c f i u
 
   -- a call by a verdict: refused, or good where it is granted
   pub good_by : {T E : Type 0} (a : Account) (w : World M N) (c : Call) (g : E → HostFault) (r : Result T E) (f : T → Answer) (v : T → World M N) → Inv R S a w

@@ -72,29 +72,26 @@ module _ {M N : Type 0} where
   alike-cond false y w w' v v' p q s u = (refl, s, u)
 
 module _ {M N : Type 0} (R : Rules M) (S : Rules N) (pick : ℕ → ℕ) (a : Account) (w : World M N) where
+  -- a step is alike where what it proceeds to is, if the host does not refuse it
+  step-if : (c : Call) (m : List ℕ) → length m ≡ length w.memory
+      → (refuse_first {T = Unit} (host_rules R S pick w c) (Ok tt) ≡ Ok tt → Alike (proceeds R S pick (with_memory m w) c) (proceeds R S pick w c)) → Alike (step R S pick (with_memory m w) c) (step R S pick w c)
+  unfolding step
+  step-if c m size p =
+      subst (λ (rs : List (Rule HostFault)). Alike (either_of (refuse_first {T = Unit} rs (Ok tt)) (λ _. proceeds R S pick (with_memory m w) c) (λ f. record { answer = told (Err f); world = with_memory m w })) (either_of (refuse_first {T = Unit} (host_rules R S pick w c) (Ok tt)) (λ _. proceeds R S pick w c) (λ f. record { answer = told (Err f); world = w })))
+      (sym (rules_same R S pick w m size c)) (by (refuse_first (host_rules R S pick w c) (Ok tt)) refl)
+    where
+      by : (r : Result Unit HostFault) → refuse_first {T = Unit} (host_rules R S pick w c) (Ok tt) ≡ r → Alike (either_of r (λ _. proceeds R S pick (with_memory m w) c) (λ f. record { answer = told (Err f); world = with_memory m w })) (either_of r (λ _. proceeds R S pick w c) (λ f. record { answer = told (Err f); world = w }))
+      by (Ok t) e = p e
+      by (Err f) e = (refl, refl, refl)
+
   -- what the host itself refuses it refuses with any bytes
   pub learns_refused : (c : Call) (f : HostFault) → refuse_first {T = Unit} (host_rules R S pick w c) (Ok tt) ≡ Err f → Learns R S pick a w c
-  unfolding step
-  learns_refused c f q m size same =
-      subst (λ (rs : List (Rule HostFault)). Alike (either_of (refuse_first {T = Unit} rs (Ok tt)) (λ _. proceeds R S pick (with_memory m w) c) (λ e. record { answer = told (Err e); world = with_memory m w })) (either_of (refuse_first {T = Unit} (host_rules R S pick w c) (Ok tt)) (λ _. proceeds R S pick w c) (λ e. record { answer = told (Err e); world = w })))
-      (sym (rules_same R S pick w m size c)) (by (refuse_first (host_rules R S pick w c) (Ok tt)) q)
-    where
-      by : (r : Result Unit HostFault) → r ≡ Err f → Alike (either_of r (λ _. proceeds R S pick (with_memory m w) c) (λ e. record { answer = told (Err e); world = with_memory m w })) (either_of r (λ _. proceeds R S pick w c) (λ e. record { answer = told (Err e); world = w }))
-      by (Ok t) e = absurd (let y : ◌≡◌ {A = ℕ} 0 1 = cc in omega arith)
-      by (Err e) q' = (refl, refl, refl)
+  learns_refused c f q m size same = step-if c m size (λ e. absurd (let y : ◌≡◌ {A = ℕ} 0 1 = cc in omega arith))
 
 module _ {M N : Type 0} (R : Rules M) (S : Rules N) (pick : ℕ → ℕ) (a : Account) (w : World M N) (i : Inv R S a w) where
-  -- a step is alike where what it proceeds to is
   step-alike : (c : Call) (m : List ℕ) → length m ≡ length w.memory
       → Alike (proceeds R S pick (with_memory m w) c) (proceeds R S pick w c) → Alike (step R S pick (with_memory m w) c) (step R S pick w c)
-  unfolding step
-  step-alike c m size p =
-      subst (λ (rs : List (Rule HostFault)). Alike (either_of (refuse_first {T = Unit} rs (Ok tt)) (λ _. proceeds R S pick (with_memory m w) c) (λ f. record { answer = told (Err f); world = with_memory m w })) (either_of (refuse_first {T = Unit} (host_rules R S pick w c) (Ok tt)) (λ _. proceeds R S pick w c) (λ f. record { answer = told (Err f); world = w })))
-      (sym (rules_same R S pick w m size c)) (by (refuse_first (host_rules R S pick w c) (Ok tt)))
-    where
-      by : (r : Result Unit HostFault) → Alike (either_of r (λ _. proceeds R S pick (with_memory m w) c) (λ f. record { answer = told (Err f); world = with_memory m w })) (either_of r (λ _. proceeds R S pick w c) (λ f. record { answer = told (Err f); world = w }))
-      by (Ok t) = p
-      by (Err f) = (refl, refl, refl)
+  step-alike c m size p = step-if R S pick a w c m size (λ e. p)
 
   -- the frames that a domain may look at are the same in both memories
   abbrev SeenSame : Call → List ℕ → Type 0
