@@ -1,40 +1,26 @@
 -- The segments of a block request, one after the other.
-use Rattle.std.proofs.Common.{◌≡◌, ℕ, zero, suc, ◌+◌, ◌<◌, List, [], ◌∷◌, ◌++◌, length, get_or, take, drop, sym, refl, ap, ◌∙◌, ap₂, subst, add-zero, arith}
-use Rattle.std.specs.Array.{IsMapOf}
-use Rattle.std.specs.Simd.{first_chunks}
-use denote.Param.Members.{Mut, Called}
+use Rattle.std.proofs.Common.{◌≡◌, ℕ, zero, suc, ◌+◌, ◌*◌, ◌<◌, List, [], ◌∷◌, ◌++◌, length, get_or, take, sym, refl, ap, ◌∙◌, add-one, arith}
 use Rattle.std.specs.List.{flat_map, AllByRecursion as All}
-use Rattle.std.proofs.lemmas.List.{take_more, flat_map_more, drop-drop}
+use Rattle.std.proofs.lemmas.List.{take_more, flat_map_more}
 use Rattle.layout.specs.Layout.{Fit, written, read, read_at}
-use Rattle.layout.proofs.Codec.{read_at_cut}
 use Rattle.blkif.specs.Block.{segment_layout, segment_layouts, segment_values, segment_of, segments_of, head_layout, head_values, block_request}
 use Rattle.blkif.specs.declared.block.Segment.{Segment}
 use Rattle.blkif.specs.declared.block.BlockRequest.{BlockRequest}
-
--- what a closure gives of an array, where each of its calls gives h
-pub mapped : {F A B : Type 0} (g : Mut F (A × Unit {0}) B) (h : A → B) {f : F} {xs : List A} {ys : List B} {n : ℕ}
-    → ((p q : F) (x : A) (y : B) → Called g p (x, tt) y q → y ≡ h x) → IsMapOf g f xs ys n
-    → (i : ℕ) (d : A) (e : B) → i < n → get_or ys i e ≡ h (get_or xs i d)
-mapped g h {xs = xs} {ys = ys} one m i d e b =
-    let w = m.at i d e b in
-    one w.0 w.1 (get_or xs i d) (get_or ys i e) w.2
 
 -- the n segments from the byte k on
 abbrev pub segments_at : ℕ → ℕ → List ℕ → List Segment
 segments_at zero k bs = []
 segments_at (suc n) k bs = segment_of (read_at k segment_layout bs) ∷ segments_at n (k + 8) bs
 
--- segments that are decoded chunk by chunk, from the byte k on
-pub segments_at-chunks : (n k : ℕ) (bs : List ℕ) (none : Segment) (ss : List Segment) → length ss ≡ n
-    → ((i : ℕ) → i < n → get_or ss i none ≡ segment_of (read segment_layout (get_or (first_chunks 8 n (drop k bs)) i [])))
-    → ss ≡ segments_at n k bs
-segments_at-chunks zero k bs none [] e h = refl
-segments_at-chunks zero k bs none (s ∷ ss) e h = absurd (omega arith)
-segments_at-chunks (suc n) k bs none [] e h = absurd (omega arith)
-segments_at-chunks (suc n) k bs none (s ∷ ss) e h =
-    ap₂ (λ x y. x ∷ y) (h 0 (omega arith) ∙ ap segment_of (read_at_cut segment_layout 0 k 8 bs (omega arith)) ∙ ap (λ j. segment_of (read_at j segment_layout bs)) (add-zero k))
-    (segments_at-chunks n (k + 8) bs none ss (omega arith)
-    (λ i b. subst (λ l. get_or ss i none ≡ segment_of (read segment_layout (get_or (first_chunks 8 n l) i []))) (drop-drop 8 k bs) (h (suc i) (omega arith))))
+one_more : (n k : ℕ) (bs : List ℕ) → segments_at (suc n) k bs ≡ segments_at n k bs ++ segment_of (read_at (k + 8 * n) segment_layout bs) ∷ []
+one_more zero k bs = ap (λ j. segment_of (read_at j segment_layout bs) ∷ []) (omega arith)
+one_more (suc n) k bs =
+    let e : k + 8 + 8 * n ≡ k + 8 * suc n = omega arith in
+    ap (λ l. segment_of (read_at k segment_layout bs) ∷ l)
+    (one_more n (k + 8) bs ∙ ap (λ j. segments_at n (k + 8) bs ++ segment_of (read_at j segment_layout bs) ∷ []) e)
+
+pub segments_at_more : (n k : ℕ) (bs : List ℕ) → segments_at (n + 1) k bs ≡ segments_at n k bs ++ segment_of (read_at (k + 8 * n) segment_layout bs) ∷ []
+segments_at_more n k bs = ap (λ m. segments_at m k bs) (add-one n) ∙ one_more n k bs
 
 -- the eight bytes of a segment
 abbrev pub bytes_of : Segment → List ℕ

@@ -1,8 +1,7 @@
 // Messages of a block ring, Xen's blkif_request and blkif_response.
-ghost use Rattle.std.specs.Prelude.{◌≡◌, [], ◌∷◌, refl};
-ghost use Rattle.layout.specs.Layout.{written};
-ghost use Rattle.layout.specs.Message.{Decoded};
-ghost use Rattle.blkif.specs.Block.{segment, head_layout, block_request, block_response};
+ghost use Rattle.std.specs.Prelude.{◌≡◌, ◌+◌, ◌≤◌, [], ◌∷◌, refl};
+ghost use Rattle.layout.specs.Layout.{written, read_at};
+ghost use Rattle.blkif.specs.Block.{segment, segment_layout, segment_of, head_layout, block_request, block_response};
 
 use layout::Coded;
 
@@ -54,6 +53,24 @@ pub struct BlockRequest {
     pub segments: [Segment; SEGMENTS],
 }
 
+// What stands in a segment's place before it is decoded.
+const NONE: Segment = Segment {
+    reference: 0,
+    first: 0,
+    last: 0,
+};
+
+// The segment whose eight bytes begin at `at`.
+#[tactic(auto, using(layout::proofs::Codec::in_place))]
+fn segment_at(slot: &[u8; 112], at: usize) -> Segment
+    requires { at + 8 ≤ 112 }
+    ensures { result ≡ segment_of (read_at at segment_layout slot.now) }
+{
+    let mut bytes = [0u8; 8];
+    bytes.copy_from_slice(&slot[at..at + 8]);
+    Segment::decode(&bytes)
+}
+
 fn head_bytes(operation: u8, count: u8, id: u64, sector: u64) -> [u8; 24]
     ensures { result ≡ written head_layout (operation ∷ count ∷ id ∷ sector ∷ []) }
 {
@@ -98,18 +115,16 @@ impl Coded<112> for BlockRequest {
             s7,
             ..
         ] = *slot;
-        let mut parts = [[0u8; 8]; SEGMENTS];
-        parts.copy_from_slice(slot[24..].as_chunks().0);
+        let mut segments = [NONE; SEGMENTS];
+        for i in 0..SEGMENTS {
+            segments[i] = segment_at(slot, 24 + 8 * i);
+        }
         BlockRequest {
             operation,
             count,
             id: u64::from_le_bytes([i0, i1, i2, i3, i4, i5, i6, i7]),
             sector: u64::from_le_bytes([s0, s1, s2, s3, s4, s5, s6, s7]),
-            segments: parts.map(
-                |part|
-                    ensures { Decoded segment part result }
-                { Segment::decode(&part) },
-            ),
+            segments,
         }
     }
 

@@ -63,9 +63,10 @@ impl Rings {
         ensures within { IfSome result (λ t. t < 12) }
     {
         let first = 2 * ConnectionNumber::try_from(number).ok()?.number;
-        [first, first + 1]
-            .into_iter()
-            .find(|ticket| !self.has_job(*ticket as usize))
+        // Not by an iterator over the two: to store them and read them again takes longer than the tests.
+        Some(first)
+            .filter(|ticket| !self.has_job(*ticket as usize))
+            .or_else(|| Some(first + 1).filter(|ticket| !self.has_job(*ticket as usize)))
     }
 
     /// Whether the connection has a job in hand.

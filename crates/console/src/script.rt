@@ -38,7 +38,7 @@ pub trait FromLine: Sized {
         ensures { reads line.now result };
 }
 
-/// The lines that are still to come, and the one that was read last.
+/// The lines that are still to come, and the one that was answered last.
 // A lock on standard input reads a byte at a time from a pipe: hence a buffer, which gives a line as soon as it is
 // there.
 #[derive(Drop)]
@@ -46,7 +46,7 @@ pub struct Script<T, R = BufReader<StdinLock<'static>>> {
     /// The system, in which a line is read.
     pub rt: HostRuntime,
     lines: Lines<R>,
-    /// The line that was read last.
+    /// The line that was answered last; empty where none was yet, or where no more came or one could not be read.
     pub text: String,
     /// How many lines came, with those that could not be read: the number of the last one.
     pub came: u64,
@@ -87,14 +87,16 @@ impl<T: FromLine, R: BufRead + Drop> Iterator for Script<T, R> {
     ghost remaining = { λ s. at_most (lines_ahead s) };
 
     fn next(&mut self) -> Option<Result<T, T::Err>> {
+        // The line before is let go first, so that no two lines are held at a time, however long they are.
+        self.text = String::new(self.rt.alloc());
         // A loop: after find_map nothing would be known of what its closure wrote to the fields.
         while let Some(line) = self.lines.next() {
             self.came = self.came.saturating_add(1);
             match line {
                 Ok(text) => {
-                    self.text = text;
-                    let asked = T::from_line(self.rt.alloc(), self.text.as_str());
+                    let asked = T::from_line(self.rt.alloc(), text.as_str());
                     if let Some(asked) = asked.transpose() {
+                        self.text = text;
                         return Some(asked);
                     }
                 }

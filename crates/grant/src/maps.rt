@@ -1,7 +1,7 @@
 // Whether a domain may map or unmap, and what it has mapped.
-ghost use Rattle.std.specs.Prelude.{◌≡◌, ◌<◌, ◌≤◌, ◌^◌, length, IfSome};
+ghost use Rattle.std.specs.Prelude.{◌≡◌, ◌<◌, ◌≤◌, length, IfSome};
 ghost use Rattle.rules.specs.Refusal.{refuse_first, granting};
-ghost use Rattle.grant.specs.Tables.{place, entry_at, handles_of, lowest, in_use, pinned, weight, pins, maps_frame, writes_frame};
+ghost use Rattle.grant.specs.Tables.{place, entry_at, handles_of, lowest, in_use, pinned, pins, maps_frame, writes_frame};
 ghost use Rattle.grant.specs.Map.{mode_number, owner_rules, entry_says, map_verdict, grant_of, unmap_verdict};
 
 use crate::fault::GrantFault;
@@ -19,25 +19,20 @@ impl Record {
     {
         self.readers != 0 || self.writers != 0
     }
-
-    // How often the record pins the frame.
-    fn weight(&self, frame: u32) -> u64
-        ensures value { result ≡ weight frame self.now }
-        ensures small { result < 2 ^ 33 }
-    {
-        if self.frame == frame {
-            u64::from(self.readers) + u64::from(self.writers)
-        } else {
-            0
-        }
-    }
 }
 
 fn pins_of(records: &[Record], frame: u32) -> u64
     requires { length records.now ≤ 256 }
     ensures { result ≡ pins records.now frame }
 {
-    records.iter().map(|record| record.weight(frame)).sum()
+    let mut sum: u64 = 0;
+    // Most records are of other frames: of these nothing else is read.
+    for record in records {
+        if record.frame == frame {
+            sum += u64::from(record.readers) + u64::from(record.writers);
+        }
+    }
+    sum
 }
 
 // The owner that a map of the domain names: a domain, and another.

@@ -1,10 +1,10 @@
 -- A device's orders in hand stay those of its jobs: where an order is accepted, where one is done, and where the job
 -- is one of the other bay.
-use Rattle.std.proofs.Common.{◌≡◌, ℕ, ◌<◌, Bool, true, false, cond, eqb, ◌⊎◌, List, [], ◌∷◌, ◌++◌, length, drop, set, Some, None, Ok, Err, Option, sym, refl, ap, ◌∙◌, inl, inr, ⊎_elim, arith}
+use Rattle.std.proofs.Common.{◌≡◌, ℕ, ◌<◌, ◌≤◌, Bool, true, false, cond, eqb, ◌⊎◌, List, [], ◌∷◌, ◌++◌, length, drop, set, Some, None, Ok, Err, Option, sym, refl, ap, ◌∙◌, inl, inr, ⊎_elim, arith}
 use Rattle.std.specs.Option.{option_map}
-use Rattle.std.proofs.lemmas.List.{append-nil, get_or-set_same, get_or-set_other}
+use Rattle.std.proofs.lemmas.List.{append-nil, get_or-set_same, get_or-set_other, set_past}
 use Rattle.std.proofs.lemmas.List.Elements.{filter-append}
-use Rattle.std.proofs.lemmas.Bool.{cases_eq, cases_Bool, eq-eqb, ne_eqb, eqb-true, cond-true, cond-false}
+use Rattle.std.proofs.lemmas.Bool.{cases_eq, cases_lt, cases_Bool, eq-eqb, ne_eqb, eqb-true, cond-true, cond-false}
 use Rattle.rules.specs.Tables.{at}
 use Rattle.device.specs.Meaning.{Rules, others, first_of, on_turn, next_order, ready_ticket, accepting, finishing}
 use Rattle.device.specs.Laws.{Laws}
@@ -72,6 +72,25 @@ under-accepted D laws x o b jobs n ok lt free order bay held = λ t.
     ∙ sym (ap (handed b) (get_or-set_other jobs o.ticket t (Some n) None d)))
     (cases_eq t o.ticket)
 
+-- what a bay has of the places of a row does not change where a place gets something of which the bay has the same
+pub handed_same : (b : Bay) (jobs : List (Option JobNote)) (t : ℕ) (y : Option JobNote) → handed b y ≡ handed b (at jobs t) → (s : ℕ) → handed b (at (set jobs t y) s) ≡ handed b (at jobs s)
+handed_same b jobs t y same s =
+    ⊎_elim
+    (λ (e : s ≡ t).
+    ap (λ k. handed b (at (set jobs t y) k)) e
+    ∙ ⊎_elim
+    (λ (lt : t < length jobs). ap (handed b) (get_or-set_same jobs t y None lt) ∙ same)
+    (λ (le : length jobs ≤ t). ap (λ xs. handed b (at xs t)) (set_past jobs t y le))
+    (cases_lt t (length jobs))
+    ∙ sym (ap (λ k. handed b (at jobs k)) e))
+    (λ (d : s ≡ t → ⊥). ap (handed b) (get_or-set_other jobs t s y None d))
+    (cases_eq s t)
+
+-- the device of the other bay is as it was, and has its orders
+pub under_other : {X : Type 0} (D : Rules X) (x : X) (b : Bay) (jobs : List (Option JobNote)) (t : ℕ) (n : JobNote)
+    → at jobs t ≡ None → same_bay (bay_of n.kind) b ≡ false → BayHeld D x b jobs → BayHeld D x b (set jobs t (Some n))
+under_other D x b jobs t n free bay held = λ s. held s ∙ sym (handed_same b jobs t (Some n) (cond-false _ _ _ bay ∙ sym (ap (handed b) free)) s)
+
 -- the order that is done is that of the job of its ticket
 pub under_done : {X : Type 0} (D : Rules X) → Laws D → (x : X) (o : Order) (t : ℕ) (b : Bay) (jobs : List (Option JobNote)) (n : JobNote)
     → finishing D x t ≡ Ok o → t < length jobs → at jobs t ≡ Some n → same_bay (bay_of n.kind) b ≡ true
@@ -88,6 +107,10 @@ under_done D laws x o t b jobs n ok lt taken bay held = λ s.
     (λ (d : s ≡ t → ⊥).
     others_apart s t (D.orders x) d ∙ held s ∙ sym (ap (handed b) (get_or-set_other jobs t s None None d)))
     (cases_eq s t)
+
+pub under_other_done : {X : Type 0} (D : Rules X) (x : X) (b : Bay) (jobs : List (Option JobNote)) (t : ℕ) (n : JobNote)
+    → at jobs t ≡ Some n → same_bay (bay_of n.kind) b ≡ false → BayHeld D x b jobs → BayHeld D x b (set jobs t None)
+under_other_done D x b jobs t n taken bay held = λ s. held s ∙ sym (handed_same b jobs t None (sym (ap (handed b) taken ∙ cond-false _ _ _ bay)) s)
 
 -- the first order that passes a test is one of those under its ticket
 first-under_if : (test : Order → Bool) (p : Order) (os : List Order) (o : Order) → ((test p ≡ true) × (p ≡ o)) ⊎ (first_of test os ≡ Some o)

@@ -33,6 +33,11 @@ module _ (hs : List (Option Mapping)) (C : Rings) (conns : List (Option Connecti
   pub no_connection_noted : (c : ℕ) → at C.connections c ≡ None → at conns c ≡ None
   no_connection_noted c e = free_too host_pairing noted_pairing (at C.connections c) (at conns c) (same_places host_pairing noted_pairing C.connections conns L.connections_same c) e
 
+  pub connection-held : (c : ℕ) (n : ConnectionNote) → at conns c ≡ Some n → (k : Connection) × ((at C.connections c ≡ Some k) × (noted_pairing n ≡ host_pairing k))
+  connection-held c n e =
+      let w = mapped_too noted_pairing host_pairing (at conns c) (at C.connections c) n (sym (same_places host_pairing noted_pairing C.connections conns L.connections_same c)) e in
+      (w.0, (w.1.0, sym w.1.1))
+
   pub job_noted_too : (t : ℕ) (j : Job) → at C.jobs t ≡ Some j → (x : JobNote) × ((at jobs t ≡ Some x) × (noted_work x ≡ host_work j))
   job_noted_too t j e = mapped_too host_work noted_work (at C.jobs t) (at jobs t) j (same_places host_work noted_work C.jobs jobs L.jobs_same t) e
 
@@ -45,7 +50,10 @@ module _ (hs : List (Option Mapping)) (C : Rings) (conns : List (Option Connecti
   next_ticket_same c = ap (λ (b : Bool). cond b (2 * c + 1) (2 * c))
       (sym (same_some_ness host_work noted_work (at C.jobs (2 * c)) (at jobs (2 * c)) (same_places host_work noted_work C.jobs jobs L.jobs_same (2 * c))))
 
-  -- the account's table of jobs is as long as the host's
+  -- the account's tables are as long as the host's
+  pub notes_size : length conns ≡ 6
+  notes_size = sym (length-map conns (option_map noted_pairing)) ∙ sym (ap length L.connections_same) ∙ length-map C.connections (option_map host_pairing) ∙ L.connections-size
+
   pub job_notes_size : length jobs ≡ 12
   job_notes_size = sym (length-map jobs (option_map noted_work)) ∙ sym (ap length L.jobs_same) ∙ length-map C.jobs (option_map host_work) ∙ L.jobs-size
 

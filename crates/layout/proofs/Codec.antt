@@ -1,6 +1,6 @@
 -- The laws of a layout, for every width: what is written is read again, and what is read is written again.
-use Rattle.std.proofs.Common.{◌≡◌, ℕ, zero, suc, ◌+◌, ◌*◌, ◌/◌, ◌%◌, ◌^◌, ◌<◌, ◌≤◌, List, [], ◌∷◌, ◌++◌, length, get_or, take, drop, replicate, refl, ap, ◌∙◌, subst, ap₂, pow-suc, arith}
-use Rattle.std.proofs.lemmas.List.{append_assoc, get_or_at, get_or-take, get_or-drop, length_push, length-append, length-replicate}
+use Rattle.std.proofs.Common.{◌≡◌, ℕ, zero, suc, ◌+◌, ◌*◌, ◌/◌, ◌%◌, ◌^◌, ◌<◌, ◌≤◌, List, [], ◌∷◌, ◌++◌, length, get_or, take, drop, replicate, sym, refl, ap, ◌∙◌, subst, ap₂, pow-suc, arith}
+use Rattle.std.proofs.lemmas.List.{append_assoc, get_or_at, get_or-take, get_or-drop, drop_more, length_push, length-append, length-replicate}
 use Rattle.layout.specs.Message.{Message, Decoded, Encoded}
 use Rattle.layout.specs.Layout.{le, bytes_from, number, Part, field, gap, written, read_at, covered_at, read, covered, Fit, size}
 
@@ -70,6 +70,13 @@ read_at_cut (gap w ∷ ps) k at n bs h =
 read_at_cut (field w ∷ ps) k at n bs h =
     let next : at + (k + w) ≡ at + k + w = omega arith in
     ap₂ (λ x y. x ∷ y) (number_cut w k at n bs (omega arith)) (read_at_cut ps (k + w) at n bs (omega arith) ∙ ap (λ j. read_at j ps bs) next)
+
+-- bytes that lie within a list, as a part of it
+pub bytes_from_is : (w k : ℕ) (bs : List ℕ) → k + w ≤ length bs → bytes_from w k bs ≡ take w (drop k bs)
+bytes_from_is zero k bs h = refl
+bytes_from_is (suc w) k bs h =
+    ap (λ l. get_or bs k 0 ∷ l) (bytes_from_is w (k + 1) bs (omega arith))
+    ∙ ap (take (suc w)) (sym (drop_more bs k 0 (omega arith)))
 
 -- What is decoded keeps its promise, where no field's value is lost in the message.
 pub decodes : {T : Type 0} (M : Message T) (bs : List ℕ) (m : T) → ((i : ℕ) → get_or bs i 0 < 256)

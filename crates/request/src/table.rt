@@ -1,5 +1,5 @@
 // The spans of frames that a request names, in order.
-ghost use Rattle.std.specs.Prelude.{◌≡◌, ◌<◌, ◌≤◌, ◌^◌, [], ◌∷◌, length, map, take, sum_by};
+ghost use Rattle.std.specs.Prelude.{◌≡◌, ◌≤◌, [], ◌∷◌, length, map, take, sum_by};
 ghost use Rattle.request.specs.Content.{segment_span, spans_of, length_of, listed};
 
 use crate::content::{Span, segment_span};
@@ -38,21 +38,26 @@ fn one_span(span: Span) -> Spans
     }
 }
 
-// The bytes of all spans together.
-fn total(spans: &[Span]) -> u32
-    requires { sum_by (λ s. s.length) spans.now < 2 ^ 32 }
-    ensures { result ≡ sum_by (λ s. s.length) spans.now }
-{
-    spans.iter().map(|span| span.length).sum()
-}
+// What stands in a span's place before one is put there.
+const NONE: Span = Span {
+    reference: 0,
+    start: 0,
+    length: 0,
+};
 
+// Only the segments that are asked for are looked at: an array's `map` would go through all eleven.
 fn block_spans(request: &BlockRequest) -> Spans
     ensures spans { listed result ≡ map segment_span (take request.now.count request.now.segments) }
     ensures length { result.length ≡ sum_by (λ s. s.length) (map segment_span (take request.now.count request.now.segments)) }
 {
     let segments = front(&request.segments, request.count as usize);
-    let table = request.segments.map(segment_span);
-    let length = total(front(&table, segments.len()));
+    let mut table = [NONE; SEGMENTS];
+    let mut length = 0;
+    for (i, segment) in segments.iter().enumerate() {
+        let span = segment_span(*segment);
+        table[i] = span;
+        length += span.length;
+    }
     Spans {
         table,
         count: segments.len() as u8,

@@ -1,11 +1,11 @@
 // The shared page of a ring, inside the memory that is lent to each function.
-ghost use Rattle.std.specs.Prelude.{◌≡◌, length};
-ghost use Rattle.layout.specs.Layout.{le};
+ghost use Rattle.std.specs.Prelude.{◌≡◌, ◌+◌, ◌*◌, ◌≤◌, length};
+ghost use Rattle.layout.specs.Layout.{le, read_at};
 ghost use Rattle.rules.specs.Refusal.{granting};
-ghost use Rattle.frame.specs.Memory.{part_verdict, frame_bytes, Written};
+ghost use Rattle.frame.specs.Memory.{part_verdict, Written};
 ghost use Rattle.ring.specs.Page.{offset_of, word_in, request_in, fresh_header};
 
-use abi::{Kind, PAGE_SIZE, RingHeader};
+use abi::{Kind, RingHeader};
 use frame::{FrameFault, read_part, write_part};
 use layout::Coded;
 use ringpage::Request;
@@ -44,20 +44,31 @@ pub fn set_word(memory: &mut [u8], page: u32, word: Word, value: u32) -> Result<
     write_part(memory, page, word.offset(), &value.to_le_bytes())
 }
 
-// The page in this frame.
-fn page_of(memory: &[u8], page: u32) -> Result<&[u8; PAGE_SIZE], FrameFault>
-    ensures { granting (λ p. p.now) result ≡ granting (λ _. frame_bytes page memory.now) (part_verdict (length memory.now) page 0 4096) }
+// A message of the page: its bytes are copied out once, and only the copy is looked at.
+#[tactic(auto, using(layout::proofs::Codec::in_place))]
+fn copy_message<M: Coded<N>, const N: usize>(
+    memory: &[u8],
+    page: u32,
+    start: u32,
+) -> Result<M, FrameFault>
+    requires { N ≤ 4096 }
+    ensures { result ≡ granting (λ _. M.format.of (read_at (4096 * page + start) M.format.layout memory.now)) (part_verdict (length memory.now) page start N) }
 {
-    let (pages, _) = memory.as_chunks::<PAGE_SIZE>();
-    pages.get(page as usize).ok_or(FrameFault::NoFrame)
+    let mut bytes = [0u8; N];
+    read_part(memory, page, start, &mut bytes)?;
+    Ok(M::decode(&bytes))
 }
 
 /// The request in the slot that an index uses. The slot is copied out once, and only the copy is looked at.
-#[tactic(auto, using(crate::proofs::InPage::request_in_page))]
 pub fn copy_request(memory: &[u8], page: u32, kind: Kind, index: u32) -> Result<Request, FrameFault>
     ensures { result ≡ request_in memory.now page kind index }
 {
-    Ok(Request::copy_from(page_of(memory, page)?, kind, index))
+    let start = kind.slot_start(index) as u32;
+    match kind {
+        Kind::Block => Ok(Request::OfBlock(copy_message(memory, page, start)?)),
+        Kind::Send => Ok(Request::OfSend(copy_message(memory, page, start)?)),
+        Kind::Receive => Ok(Request::OfReceive(copy_message(memory, page, start)?)),
+    }
 }
 
 /// Writes the header of a new ring: 0, 1, 0, 1, and zeros up to the first slot.

@@ -15,6 +15,9 @@ use device::row::copy_row;
 use device::turn::{on_turn, part_on_turn};
 use device::{Device, DeviceFault, Direction, Order};
 
+/// Bytes that an inward order has room for: a page.
+pub const FRAME: u32 = PAGE_SIZE as u32;
+
 /// Carries out the end of an order that is ready: its status, and what waits then.
 fn finish(packets: &mut Packets<'_>, order: Order) -> i16
     requires { (open_way true (nat_lt (length (waiting_of packets.old)) (room_of packets.old)) order.direction ≡ true) × (wire_fits order.direction order.place order.length ≡ true) }
@@ -78,7 +81,7 @@ impl<'a> Device for Wire<'a> {
             return false;
         }
         match direction {
-            Direction::Inward => size as usize == PAGE_SIZE,
+            Direction::Inward => size == FRAME,
             Direction::Outward => size > 0 && size as usize <= LONGEST,
         }
     }
